@@ -1,0 +1,10 @@
+pub mod Checking
+pub mod Coding
+pub mod Composing
+pub mod Entries
+pub mod Fills
+pub mod Laying
+pub mod Sealing
+pub mod Summing
+pub mod Verdicts
+pub mod Walking

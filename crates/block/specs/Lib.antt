@@ -1,0 +1,10 @@
+pub mod Checks
+pub mod Commands
+pub mod Drafts
+pub mod Filling
+pub mod Fitting
+pub mod Fletcher
+pub mod Format
+pub mod Laws
+pub mod Parsing
+pub mod Writing

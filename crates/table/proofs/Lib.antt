@@ -1,0 +1,9 @@
+pub mod Changes
+pub mod Keys
+pub mod Looks
+pub mod Members
+pub mod Nexts
+pub mod Ranks
+pub mod Shapes
+pub mod Standing
+pub mod Tables

@@ -1,0 +1,16 @@
+use native.Mathlib.Omega.{arith}
+use Rattle.std.proofs.shelf.Ways.{tells}
+use Rattle.table.specs.Order.{before}
+use Rattle.table.proofs.calls.comes_before.Needs as need
+
+pub returns-then-a-b : need.returns-then-a-b
+unfolding before
+returns-then-a-b c = grind (arith, tells)
+
+pub returns-then-a-b-2 : need.returns-then-a-b-2
+unfolding before
+returns-then-a-b-2 c = grind (arith, tells)
+
+pub returns-else-a-b-2 : need.returns-else-a-b-2
+unfolding before
+returns-else-a-b-2 c = grind (arith, tells)

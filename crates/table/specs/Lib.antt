@@ -1,0 +1,4 @@
+pub mod Order
+pub mod Places
+pub mod Records
+pub mod View
