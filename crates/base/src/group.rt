@@ -7,6 +7,8 @@ ghost use Rattle.base.specs.Codes.{group-text, padded};
 
 mod naming;
 
+pub use naming::GroupKind;
+
 // A group of observers, by a text of 1 to 16 bytes, none of them zero, which is kept padded with zeros.
 #[derive(Clone, Copy)]
 pub struct Group {

@@ -16,26 +16,24 @@ use Rattle.std.proofs.shelf.Parts.{drop-putMid, take-putMid}
 pub length-written : (xs : List ℕ) (used : ℕ) → length xs ≡ 512 → used ≤ 502 → length (take used (drop 8 xs)) ≡ used
 length-written xs used whole room = length-take-le used (drop 8 xs) (simp length-drop (omega arith))
 
-module _ (xs ys part : List ℕ) (used k : ℕ) (whole : length xs ≡ 512) (more : used + length part ≤ 502) (is : ys ≡ part) (span : k ≡ length part) where
+module _ (xs ys part : List ℕ) (used k n : ℕ) (whole : length xs ≡ 512) (size : length part ≡ n) (more : used + n ≤ 502) (is : ys ≡ part) (span : k ≡ n) where
   abbrev pub new : List ℕ
   new = putMid (8 + used) k xs ys
 
   pub laid-whole : length new ≡ 512
-  laid-whole = let l = ap length is in search (needs, places)
+  laid-whole = let l : length ys ≡ n = ap length is ∙ size in search (needs, places)
 
-  pub laid-clear : drop (8 + used) xs ≡ replicate (504 - used) 0 → drop (8 + (used + length part)) new ≡ replicate (504 - (used + length part)) 0
+  pub laid-clear : drop (8 + used) xs ≡ replicate (504 - used) 0 → drop (8 + (used + n)) new ≡ replicate (504 - (used + n)) 0
   laid-clear clear =
-      let n = length part in
-      let l = ap length is in
+      let l : length ys ≡ n = ap length is ∙ size in
       let at : 8 + (used + n) ≡ 8 + used + n = omega arith in
       let less : 504 - used - n ≡ 504 - (used + n) = omega arith in
       drop-putMid (8 + used) k xs ys (8 + (used + n)) (omega arith) (omega arith) (omega arith)
       ∙ ap (λ j. drop j xs) at ∙ sym (drop-drop n (8 + used) xs) ∙ ap (drop n) clear ∙ drop-replicate n (504 - used) 0 ∙ ap (λ j. replicate j 0) less
 
-  pub laid-bytes : take (used + length part) (drop 8 new) ≡ take used (drop 8 xs) ++ part
+  pub laid-bytes : take (used + n) (drop 8 new) ≡ take used (drop 8 xs) ++ part
   laid-bytes =
-      let n = length part in
-      let l = ap length is in
+      let l : length ys ≡ n = ap length is ∙ size in
       let long : 8 ≤ length (take (8 + used) xs) = let t = length-take-le (8 + used) xs (omega arith) in omega arith in
       sym (drop-take 8 (used + n) new) ∙ ap (drop 8) (take-putMid (8 + used) k xs ys (8 + (used + n)) (omega arith) (omega arith))
       ∙ drop-append-le 8 (take (8 + used) xs) ys long ∙ (λ i. drop-take 8 used xs i ++ is i)

@@ -1,5 +1,6 @@
 // The text that the tool reads: a command to a line.
 use base::group::Group;
+use base::group::GroupKind;
 use base::key::Key;
 use base::key::Slot;
 use base::key::SlotKind;
@@ -80,21 +81,11 @@ pub struct Script {
     pub entries: Vec<Entry>,
 }
 
-// The code of a group is its text, padded with zeros.
 fn parse_group(text: &[u8]) -> Result<Key, Mistake> {
-    if Group::new(text).is_err() {
-        return Err(Mistake::Group);
+    match Group::new(text) {
+        Ok(group) => Ok(key_of(&group)),
+        Err(_) => Err(Mistake::Group),
     }
-    let mut code = [0u8; 16];
-    for (i, b) in text.iter().enumerate() {
-        if i < 16 {
-            code[i] = *b;
-        }
-    }
-    Ok(Key {
-        kind: 1,
-        code: u128::from_be_bytes(code),
-    })
 }
 
 fn parse_key(kind: &str, name: &str) -> Result<Key, Mistake> {

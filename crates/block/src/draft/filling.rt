@@ -59,14 +59,15 @@ impl Draft {
         more <= self.left()
     }
 
-    fn append(&mut self, part: &[u8])
-        requires { ⌜ now self .used + length (now part) ≤ 502 ⌝ }
+    // Parts have a fixed length, so that each is laid down by one store.
+    fn append<const N: usize>(&mut self, part: &[u8; N])
+        requires { ⌜ now self .used + N ≤ 502 ⌝ }
         ensures bytes { λ _. ⌜ written (now (self .exit)) ≡ written (now (self .entry)) ++ now (part .entry) ⌝ }
-        ensures len { λ _. ⌜ now (self .exit) .used ≡ now (self .entry) .used + length (now (part .entry)) ⌝ }
+        ensures len { λ _. ⌜ now (self .exit) .used ≡ now (self .entry) .used + N ⌝ }
     {
         let at = COMMANDS + self.used;
-        self.bytes[at..at + part.len()].copy_from_slice(part);
-        self.used = self.used + part.len();
+        self.bytes[at..at + N].copy_from_slice(part);
+        self.used = self.used + N;
     }
 
     fn append_tid(&mut self, tid: u64)

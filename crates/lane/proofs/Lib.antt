@@ -1,0 +1,4 @@
+pub mod Laid
+pub mod Kept
+pub mod Calls
+pub mod Fresh

@@ -1,0 +1,4 @@
+// Where eight files lie in one run of slots.
+pub mod lane;
+pub mod plan;
+pub mod slots;

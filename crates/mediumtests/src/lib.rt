@@ -1,0 +1,3 @@
+// Examples on both media, run as tests.
+#[cfg(test)]
+mod tests;

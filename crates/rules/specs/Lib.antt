@@ -1,0 +1,11 @@
+pub mod Calls
+pub mod Checkpoints
+pub mod Figures
+pub mod Laws
+pub mod Logging
+pub mod Nights
+pub mod Recovery
+pub mod Serial
+pub mod SmallNights
+pub mod State
+pub mod Transactions
