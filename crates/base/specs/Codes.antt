@@ -1,5 +1,5 @@
 -- Codes of keys: 16 bytes, held as the number that they spell.
-use Rattle.std.specs.Prelude.{ℕ, ◌-◌, Bool, true, false, not, ◌&&◌, List, [], ◌∷◌, ◌++◌, length, replicate, ◌==◌, nat_le}
+use Rattle.std.specs.Prelude.{ℕ, ◌-◌, Bool, true, not, ◌&&◌, List, [], ◌∷◌, ◌++◌, length, replicate, ◌==◌, nat_le}
 use Rattle.base.specs.Bytes.{be_at}
 
 abbrev pub no_zero : List ℕ → Bool

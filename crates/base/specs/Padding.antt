@@ -1,10 +1,10 @@
 -- A padded text gives its text back.
-use Rattle.std.specs.Prelude.{◌≡◌, ℕ, zero, suc, ◌-◌, ◌<◌, ◌≤◌, true, false, not, ◌&&◌, List, [], ◌∷◌, ◌++◌, length, take, replicate, Ok, ◌≢◌, refl}
+use Rattle.std.specs.Prelude.{◌≡◌, ℕ, zero, suc, ◌-◌, ◌≤◌, true, false, not, List, [], ◌∷◌, ◌++◌, length, take, replicate, Ok, ◌≢◌, refl}
 use Rattle.std.proofs.Common.{sym, ap, ◌∙◌, arith, length-append}
 use Rattle.std.proofs.lemmas.Bool.{and_parts, and_from, leb-true, le-leb}
 use Rattle.std.proofs.lemmas.List.{take_at, length-replicate}
 use Rattle.std.proofs.lemmas.Bool.Decides.{nat_tests}
-use Rattle.base.specs.Bytes.{Bytes, be_at}
+use Rattle.base.specs.Bytes.{Bytes}
 use Rattle.base.specs.Codes.{no_zero, group_text, padded, group_code}
 use Rattle.base.specs.Groups.{named}
 use Rattle.base.specs.Spelling.{same_bytes}

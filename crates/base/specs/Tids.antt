@@ -1,5 +1,5 @@
 -- A TID is its epoch times 65,536 plus its sequence.
-use Rattle.std.specs.Prelude.{◌≡◌, ℕ, ◌+◌, ◌*◌, ◌/◌, ◌%◌, ◌<◌}
+use Rattle.std.specs.Prelude.{ℕ, ◌+◌, ◌*◌, ◌/◌, ◌%◌}
 
 abbrev pub tid_of : ℕ → ℕ → ℕ
 tid_of epoch sequence = epoch * 65536 + sequence

@@ -32,7 +32,7 @@ pub trait KeyKind {
 
 // The form in which tables and blocks hold a key.
 pub fn key_of<K: KeyKind>(key: &K) -> Key
-    ensures { result ≡ record { kind = kind; code = coded key.now } }
+    ensures { result ≡ record { kind = K.kind; code = K.coded key.now } }
 {
     Key {
         kind: K::kind_number(),

@@ -1,4 +1,6 @@
 // What every other crate speaks of: refusals, limits, TIDs, keys and faults.
+#![tactic(auto)]
+
 pub mod fault;
 pub mod group;
 pub mod key;

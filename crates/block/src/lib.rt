@@ -1,4 +1,6 @@
 // The 512-byte block: its sum, its commands, the writer and the reader.
+#![tactic(auto)]
+
 mod checks;
 pub mod command;
 pub mod draft;

@@ -1,5 +1,7 @@
 // Writes or reads many blocks, and says what came of it, so that another program can be held to the same answer.
 // `write COUNT` and `read COUNT` are for timing; `bytes COUNT` goes over every byte of the blocks that are written.
+#![tactic(auto)]
+
 use anyhow::{Context, anyhow};
 use base::key::Key;
 use base::tid::tid_of;

@@ -1,4 +1,6 @@
 // Blocks changed behind the writer's back, and what the reader and the writer say of them.
+#![tactic(auto)]
+
 ghost use Rattle.std.specs.Prelude.{◌≡◌, slice_set};
 ghost use Rattle.blocktests.specs.Damage.{resealed};
 

@@ -1,4 +1,6 @@
 // Writes a block of the commands that it reads, reads it back, and shows what the reader says of it once it is changed.
+#![tactic(auto)]
+
 mod script;
 mod show;
 mod steps;

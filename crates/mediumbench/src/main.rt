@@ -1,4 +1,6 @@
 // Fills a file of 4,096 blocks, syncs it, reads it back and retires it, many times, on a ring or on a pool.
+#![tactic(auto)]
+
 use anyhow::anyhow;
 use base::refusal::Refusal;
 use lane::plan::plan_of;

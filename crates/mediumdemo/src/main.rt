@@ -1,4 +1,6 @@
 // Runs the same calls on each medium, and prints what they answer.
+#![tactic(auto)]
+
 use crate::round::{Round, play_round, play_twins};
 use crate::tally::tally;
 use base::refusal::Refusal;

@@ -1,3 +1,5 @@
 // Examples on both media, run as tests.
+#![tactic(auto)]
+
 #[cfg(test)]
 mod tests;

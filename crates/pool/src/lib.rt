@@ -1,4 +1,6 @@
 // A medium in lent memory: one pool of pages, which all files share.
+#![tactic(auto)]
+
 ghost use Rattle.std.specs.Prelude.{◌≡◌, ◌+◌, ◌≤◌, length};
 ghost use Rattle.lane.specs.Lanes.{Apart, Inside};
 ghost use Rattle.lane.specs.Meaning.{Long, Small};

@@ -1,4 +1,6 @@
 // A table of records, sorted by key, in memory that is got once.
+#![tactic(auto)]
+
 ghost use Rattle.std.specs.Prelude.{◌≡◌, ◌≤◌, true, vec_len, vec_capacity};
 ghost use Rattle.table.specs.Order.{sorted, most_records};
 

@@ -51,7 +51,7 @@ impl KeyKind for Group {
 
     ghost same = { λ x y. text_of x ≡ text_of y };
 
-    ghost few = { first_of (Prim.search rules, Prim.grind (arith, Self.row.coded.inj)) };
+    ghost few = { Prim.search rules };
 
     ghost apart = { λ x y e. same_text (text_of x) (text_of y) x.bytes y.bytes x.named y.named x.filled y.filled x.small y.small e };
 

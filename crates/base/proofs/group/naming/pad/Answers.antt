@@ -6,4 +6,4 @@ pub returns : goal.returns
 returns c =
     let n = length c.args.text.now in
     let e : n - 0 ≡ n = omega arith in
-    λ i. c.copy-from-slice.ensures.after i ++ (ap (λ k. drop k (replicate 16 0)) e ∙ drop-replicate n 16 0) i
+    λ i. c.copy_from_slice.ensures.after i ++ (ap (λ k. drop k (replicate 16 0)) e ∙ drop-replicate n 16 0) i
