@@ -5,5 +5,5 @@ use Rattle.table.specs.View.{view}
 use Rattle.table.proofs.Ranks.{next_first}
 use Rattle.table.proofs.Table.next_behind.Goals as goal
 
-pub returns_in_None : goal.returns_in_None
-returns_in_None c = let rs = view c.args.self.now in c.record-at.ensures ∙ sym (next_first rs) ∙ ap (λ (o : Option Key). next_behind o rs) (sym c.in-None.is)
+pub returns-in-None : goal.returns-in-None
+returns-in-None c = let rs = view c.args.self.now in c.record_at.ensures ∙ sym (next_first rs) ∙ ap (λ (o : Option Key). next_behind o rs) (sym c.in-None.is)

@@ -6,12 +6,12 @@ use Rattle.table.proofs.Table.rank.Goals as goal
 pub loop-low-init : goal.loop-low-init
 loop-low-init c = let s = c.args.self.now in omega (arith, rank_bound c.args.key (view s))
 
-pub loop-low-preserved-then-comes-before : goal.loop-low-preserved-then-comes-before
-loop-low-preserved-then-comes-before c =
+pub loop-low-preserved-then-comes_before : goal.loop-low-preserved-then-comes_before
+loop-low-preserved-then-comes_before c =
     let s = c.args.self.now in
-    omega (arith, read_above c.args.key (view s) _ c.index.result.now (omega (arith, s.records.ok.0)) c.index.ensures s.ordered c.if-comes-before.ensures)
+    omega (arith, read_above c.args.key (view s) _ c.index.result.now (omega (arith, s.records.ok.0)) c.index.ensures s.ordered c.if-comes_before.ensures)
 
 pub loop-low-preserved : goal.loop-low-preserved
 loop-low-preserved c =
     let s = c.args.self.now in
-    omega (arith, read_upto c.args.key (view s) _ c.index.result.now (omega (arith, s.records.ok.0)) c.index.ensures c.if-comes-before.ensures)
+    omega (arith, read_upto c.args.key (view s) _ c.index.result.now (omega (arith, s.records.ok.0)) c.index.ensures c.if-comes_before.ensures)
