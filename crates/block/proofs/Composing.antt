@@ -1,6 +1,6 @@
 -- Writing one command after the other.
-use Rattle.std.proofs.Common.{◌≡◌, ℕ, ◌+◌, ◌<◌, ◌≤◌, Bool, true, false, cond, ltb, leb, List, [], ◌∷◌, ◌++◌, length, get_or, take, drop, is_ok, Some, None, Ok, Err, Option, Result, sym, refl, ap, ◌∙◌, arith, length-append}
-use Rattle.std.proofs.lemmas.List.{drop_more, take_more, flat_map_more}
+use Rattle.std.proofs.Common.{◌≡◌, ℕ, ◌+◌, ◌<◌, ◌≤◌, Bool, true, false, cond, leb, List, [], ◌∷◌, ◌++◌, length, get_or, take, is_ok, Some, None, Ok, Err, Option, Result, sym, refl, ap, ◌∙◌, arith}
+use Rattle.std.proofs.lemmas.List.{take_more, flat_map_more}
 use Rattle.std.proofs.lemmas.Bool.{le-ltb}
 use Rattle.std.proofs.lemmas.Bool.Decides.{nat_tests}
 use Rattle.base.specs.Limits.{last_epoch}
@@ -14,7 +14,7 @@ use Rattle.block.specs.declared.writer.WriteError.TheVariants.{Refused, Faulty}
 use Rattle.std.specs.List.{AllByRecursion as All}
 use Rattle.base.specs.Tids.{epoch_of}
 use Rattle.block.specs.declared.entry.Entry.TheVariants.{Txn, Put, Del, Row, Gone}
-use Rattle.block.specs.Checks.{start, onward, entry_fault, first_some, fault, fault_at, placed, wrong_field, wrong_row, epoch_after, walk, step_on}
+use Rattle.block.specs.Checks.{start, onward, entry_fault, first_some, fault, fault_at, wrong_field, wrong_row, epoch_after, walk, step_on}
 use Rattle.block.specs.Drafts.{push_answer, push_after}
 use Rattle.block.specs.Fitting.{fits, room}
 use Rattle.block.specs.Format.{bytes_of, size_of, content, block_of}

@@ -1,12 +1,12 @@
 -- What fits goes in whole, whatever the room.
-use Rattle.std.proofs.Common.{◌≡◌, ℕ, ◌+◌, ◌-◌, ◌*◌, ◌<◌, ◌≤◌, true, false, cond, leb, List, [], ◌∷◌, ◌++◌, length, sym, refl, ap, ◌∙◌, append_assoc, arith, length-append}
+use Rattle.std.proofs.Common.{◌≡◌, ℕ, ◌+◌, ◌-◌, ◌*◌, ◌≤◌, cond, leb, List, [], ◌∷◌, ◌++◌, length, sym, refl, ap, ◌∙◌, append_assoc, arith, length-append}
 use Rattle.std.proofs.lemmas.List.{append-nil}
 use Rattle.std.proofs.lemmas.Bool.{le-leb}
 use Rattle.std.proofs.lemmas.Bool.Decides.{nat_tests}
 use Rattle.block.specs.Fitting.{fits, needed}
 use Rattle.block.specs.declared.entry.Entry.{Entry}
 use Rattle.block.specs.declared.entry.Entry.TheVariants.{Txn, Put, Del, Row, Gone}
-use Rattle.block.specs.Filling.{with_entry, with_entries, GoesIn, writes_in, erases_in, is_change, Changes}
+use Rattle.block.specs.Filling.{with_entry, with_entries, writes_in, erases_in, Changes}
 use Rattle.block.specs.Format.{bytes_of, size_of, content}
 use Rattle.block.proofs.Coding.{length_bytes}
 

@@ -1,9 +1,9 @@
 -- A sealed block passes all checks, and what passes them is a sealed block.
-use Rattle.std.proofs.Common.{◌≡◌, ℕ, zero, suc, ◌+◌, ◌-◌, ◌*◌, ◌%◌, ◌^◌, ◌<◌, ◌≤◌, Bool, true, false, cond, not, ◌||◌, eqb, ltb, leb, List, [], ◌∷◌, ◌++◌, length, get_or, take, drop, replicate, ℤ, pos, negsuc, is_ok, Some, None, Ok, Err, fold, Option, Result, sym, refl, ap, ◌∙◌, subst, append_assoc, mod-lt, arith, length-append, length-drop, take-add, w64, SFits}
+use Rattle.std.proofs.Common.{◌≡◌, ℕ, zero, suc, ◌+◌, ◌-◌, ◌%◌, ◌^◌, ◌<◌, ◌≤◌, Bool, true, false, cond, not, ◌||◌, eqb, ltb, List, [], ◌∷◌, ◌++◌, length, get_or, take, drop, replicate, ℤ, pos, negsuc, is_ok, Some, None, Ok, Err, fold, Option, Result, sym, refl, ap, ◌∙◌, append_assoc, mod-lt, arith, length-append, length-drop, w64, SFits}
 use lib.ListN.{length-replicate}
 use Rattle.std.specs.List.{AllByRecursion as All}
-use Rattle.std.proofs.lemmas.List.{take_at, drop_at, take_all, drop-drop, take-append-drop, take-append-le, append-nil, length-take-le, take_rest}
-use Rattle.std.proofs.lemmas.Bool.{le-ltb, ltb-false, eq-eqb, eqb-true}
+use Rattle.std.proofs.lemmas.List.{take_at, drop_at, take_all, drop-drop, take-append-drop, length-take-le}
+use Rattle.std.proofs.lemmas.Bool.{le-ltb, eq-eqb, eqb-true}
 use Rattle.std.proofs.lemmas.Bool.Decides.{nat_tests}
 use Rattle.base.specs.Bytes.{be, be_at, number_at, Bytes}
 use Rattle.base.specs.declared.fault.BlockFault.{BlockFault}
@@ -14,10 +14,10 @@ use Rattle.block.specs.declared.way.Way.{Way}
 use Rattle.base.specs.Limits.{value_fits}
 use Rattle.base.specs.declared.refusal.Refusal.TheVariants.{BadHeader, BadSum, BadPadding, BadCommand, MisplacedCommand, FieldOutOfRange}
 use Rattle.block.specs.declared.entry.Entry.TheVariants.{Txn, Put, Del, Row, Gone}
-use Rattle.block.specs.Laws.{Coded, Lawful, ReadsBack, OnlyWritten}
+use Rattle.block.specs.Laws.{Coded, ReadsBack, OnlyWritten}
 use Rattle.block.specs.Checks.{first_some, fault, placed, wrong_field, wrong_tid, wrong_row, wrong_kind, wrong_value, epoch_after, fault_at, wrong_header, wrong_sum, wrong_padding, nonzero, walk, start, onward, step_on, entry_fault, ended, commands_fault, commands_in, read_answer, judged, header_fault, sum_fault, padding_fault}
 use Rattle.block.specs.Fletcher.{Sums, add_byte, no_bytes, sums, fletcher16}
-use Rattle.block.specs.Format.{bytes_of, size_of, content, header, summed, sealed, block_of}
+use Rattle.block.specs.Format.{bytes_of, content, header, summed, sealed}
 use Rattle.block.specs.Parsing.{entries}
 use Rattle.block.proofs.Coding.{length_bytes, entries_back, front_back, Fields, field_back, byte_field, parts, tag}
 use Rattle.block.proofs.Laying.{length-summed}

@@ -1,5 +1,5 @@
 -- The layout of a block: a header of 8 bytes, command bytes, zeros up to byte 509, and the sum of all before it.
-use Rattle.std.specs.Prelude.{ℕ, ◌+◌, ◌-◌, List, [], ◌∷◌, ◌++◌, length, replicate, ℤ}
+use Rattle.std.specs.Prelude.{ℕ, ◌-◌, List, ◌∷◌, ◌++◌, length, replicate, ℤ}
 use Rattle.std.proofs.Common.{of_z}
 use Rattle.std.specs.Int.{w64}
 use Rattle.std.specs.List.{flat_map}

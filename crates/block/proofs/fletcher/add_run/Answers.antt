@@ -1,7 +1,7 @@
-use Rattle.std.proofs.Common.{◌≡◌, get_or, fold, sym, refl, ap, ◌∙◌, arith}
+use Rattle.std.proofs.Common.{get_or, fold, sym, ap, ◌∙◌, arith}
 use Rattle.std.proofs.lemmas.List.{take_all}
 use Rattle.std.proofs.lemmas.List.Sums.{fold_more}
-use Rattle.block.specs.Fletcher.{Sums, add_byte}
+use Rattle.block.specs.Fletcher.{add_byte}
 use Rattle.block.proofs.Summing.{late}
 use Rattle.block.proofs.fletcher.add_run.Goals as goal
 

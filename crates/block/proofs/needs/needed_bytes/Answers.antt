@@ -1,5 +1,4 @@
 use Rattle.std.proofs.Common.{arith}
-use Rattle.block.specs.Format.{content}
 use Rattle.block.proofs.Fills.{counted, needed_some}
 use Rattle.block.proofs.needs.needed_bytes.Goals as goal
 

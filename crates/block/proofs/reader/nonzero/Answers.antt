@@ -1,4 +1,4 @@
-use Rattle.std.proofs.Common.{◌≡◌, ◌+◌, sym, ◌∙◌, arith}
+use Rattle.std.proofs.Common.{sym, ◌∙◌}
 use Rattle.block.proofs.Checking.{zero_passed, nonzero_found, all_zero}
 use Rattle.block.proofs.reader.nonzero.Goals as goal
 

@@ -3,5 +3,5 @@ use Rattle.block.specs.Checks.{nonzero}
 use Rattle.block.proofs.reader.nonzero.Given as goal
 
 -- what is left gives the answer
-abbrev pub invariant_loop_i : goal.invariant_loop_i
-invariant_loop_i l = nonzero (l.at + l.i) (drop l.i l.padding) ≡ nonzero l.at l.padding
+abbrev pub invariant-loop-i : goal.invariant-loop-i
+invariant-loop-i l = nonzero (l.at + l.i) (drop l.i l.padding) ≡ nonzero l.at l.padding

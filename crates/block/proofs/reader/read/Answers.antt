@@ -1,4 +1,4 @@
-use Rattle.std.proofs.Common.{◌≡◌, ◌+◌, ◌-◌, List, take, drop, Some, None, Ok, Err, sym, ap, ◌∙◌, arith}
+use Rattle.std.proofs.Common.{◌≡◌, ◌+◌, ◌-◌, take, drop, Ok, Err, sym, ap, ◌∙◌, arith}
 use Rattle.std.proofs.lemmas.Result.{err_from_is_err_and}
 use Rattle.base.specs.Bytes.{number_at}
 use Rattle.block.specs.Checks.{header_fault, sum_fault, padding_fault, commands_fault, commands_in}
@@ -8,59 +8,59 @@ use Rattle.block.proofs.Sealing.{back_from, only_from}
 use Rattle.block.proofs.Verdicts.{found, clean, same_answer, at_header, at_sum, at_padding, at_commands, all_clean}
 use Rattle.block.proofs.reader.read.Goals as goal
 
-pub returns-in-err-n : goal.returns-in-err-n
-returns-in-err-n c =
+pub returns-in_err-n : goal.returns-in_err-n
+returns-in_err-n c =
     let bs = c.args.block.now in
-    let p = err_from_is_err_and c.from-residual.result c.from-residual.ensures.1 in
-    let is = ap answered p.1 ∙ ap (λ f. Err f) p.2 ∙ at_header c.args.file c.args.number c.args.marked bs _ (found _ (header_fault c.args.file c.args.number bs) _ c.in-err-n.ensures.answer) in
+    let p = err_from_is_err_and c.from_residual.result c.from_residual.ensures.1 in
+    let is = ap answered p.1 ∙ ap (λ f. Err f) p.2 ∙ at_header c.args.file c.args.number c.args.marked bs _ (found _ (header_fault c.args.file c.args.number bs) _ c.in_err-n.ensures.answer) in
     record { answer = is; back = back_from c.args.file c.args.number c.args.marked bs _ is; only = only_from c.args.file c.args.number c.args.marked bs _ is c.told-block c.fits-block }
 
-pub returns-in-err-check-sum : goal.returns-in-err-check-sum
-returns-in-err-check-sum c =
+pub returns-in_err-check_sum : goal.returns-in_err-check_sum
+returns-in_err-check_sum c =
     let bs = c.args.block.now in
-    let p = err_from_is_err_and c.from-residual-in-err-check-sum.result c.from-residual-in-err-check-sum.ensures.1 in
-    let head = clean _ _ (header_fault c.args.file c.args.number bs) c.in-ok-n.ensures.answer in
-    let is = ap answered p.1 ∙ ap (λ f. Err f) p.2 ∙ at_sum c.args.file c.args.number c.args.marked bs _ head (found tt (sum_fault c.args.file c.args.number bs) _ c.in-err-check-sum.ensures) in
+    let p = err_from_is_err_and c.from_residual-in_err-check_sum.result c.from_residual-in_err-check_sum.ensures.1 in
+    let head = clean _ _ (header_fault c.args.file c.args.number bs) c.in_ok-n.ensures.answer in
+    let is = ap answered p.1 ∙ ap (λ f. Err f) p.2 ∙ at_sum c.args.file c.args.number c.args.marked bs _ head (found tt (sum_fault c.args.file c.args.number bs) _ c.in_err-check_sum.ensures) in
     record { answer = is; back = back_from c.args.file c.args.number c.args.marked bs _ is; only = only_from c.args.file c.args.number c.args.marked bs _ is c.told-block c.fits-block }
 
-pub returns-in-err-check-padding : goal.returns-in-err-check-padding
-returns-in-err-check-padding c =
+pub returns-in_err-check_padding : goal.returns-in_err-check_padding
+returns-in_err-check_padding c =
     let bs = c.args.block.now in
-    let n = c.in-ok-n.n in
-    let p = err_from_is_err_and c.from-residual-in-err-check-padding.result c.from-residual-in-err-check-padding.ensures.1 in
+    let n = c.in_ok-n.n in
+    let p = err_from_is_err_and c.from_residual-in_err-check_padding.result c.from_residual-in_err-check_padding.ensures.1 in
     let header = header_fault c.args.file c.args.number bs in
-    let head = clean _ _ header c.in-ok-n.ensures.answer in
-    let size = same_answer (number_at 2 2 bs) n header c.in-ok-n.ensures.answer in
-    let sum = clean tt tt (sum_fault c.args.file c.args.number bs) c.in-ok-check-sum.ensures in
-    let pad = ap (λ k. padding_fault c.args.file c.args.number k bs) (sym size) ∙ found tt (padding_fault c.args.file c.args.number n bs) _ c.in-err-check-padding.ensures in
+    let head = clean _ _ header c.in_ok-n.ensures.answer in
+    let size = same_answer (number_at 2 2 bs) n header c.in_ok-n.ensures.answer in
+    let sum = clean tt tt (sum_fault c.args.file c.args.number bs) c.in_ok-check_sum.ensures in
+    let pad = ap (λ k. padding_fault c.args.file c.args.number k bs) (sym size) ∙ found tt (padding_fault c.args.file c.args.number n bs) _ c.in_err-check_padding.ensures in
     let is = ap answered p.1 ∙ ap (λ f. Err f) p.2 ∙ at_padding c.args.file c.args.number c.args.marked bs _ head sum pad in
     record { answer = is; back = back_from c.args.file c.args.number c.args.marked bs _ is; only = only_from c.args.file c.args.number c.args.marked bs _ is c.told-block c.fits-block }
 
-pub returns-in-err-check-commands : goal.returns-in-err-check-commands
-returns-in-err-check-commands c =
+pub returns-in_err-check_commands : goal.returns-in_err-check_commands
+returns-in_err-check_commands c =
     let bs = c.args.block.now in
-    let n = c.in-ok-n.n in
-    let p = err_from_is_err_and c.from-residual-in-err-check-commands.result c.from-residual-in-err-check-commands.ensures.1 in
+    let n = c.in_ok-n.n in
+    let p = err_from_is_err_and c.from_residual-in_err-check_commands.result c.from_residual-in_err-check_commands.ensures.1 in
     let header = header_fault c.args.file c.args.number bs in
-    let head = clean _ _ header c.in-ok-n.ensures.answer in
-    let size = same_answer (number_at 2 2 bs) n header c.in-ok-n.ensures.answer in
-    let sum = clean tt tt (sum_fault c.args.file c.args.number bs) c.in-ok-check-sum.ensures in
-    let pad = ap (λ k. padding_fault c.args.file c.args.number k bs) (sym size) ∙ clean tt tt (padding_fault c.args.file c.args.number n bs) c.in-ok-check-padding.ensures in
+    let head = clean _ _ header c.in_ok-n.ensures.answer in
+    let size = same_answer (number_at 2 2 bs) n header c.in_ok-n.ensures.answer in
+    let sum = clean tt tt (sum_fault c.args.file c.args.number bs) c.in_ok-check_sum.ensures in
+    let pad = ap (λ k. padding_fault c.args.file c.args.number k bs) (sym size) ∙ clean tt tt (padding_fault c.args.file c.args.number n bs) c.in_ok-check_padding.ensures in
     let part : commands_in bs ≡ take (8 + n - 8) (drop 8 bs) = (let e : number_at 2 2 bs ≡ 8 + n - 8 = sym size ∙ (let z : n ≡ 8 + n - 8 = omega arith in z) in ap (λ k. take k (drop 8 bs)) e) in
-    let commands = ap (commands_fault c.args.file c.args.number c.args.marked) part ∙ found tt _ _ c.in-err-check-commands.ensures in
+    let commands = ap (commands_fault c.args.file c.args.number c.args.marked) part ∙ found tt _ _ c.in_err-check_commands.ensures in
     let is = ap answered p.1 ∙ ap (λ f. Err f) p.2 ∙ at_commands c.args.file c.args.number c.args.marked bs _ head sum pad commands in
     record { answer = is; back = back_from c.args.file c.args.number c.args.marked bs _ is; only = only_from c.args.file c.args.number c.args.marked bs _ is c.told-block c.fits-block }
 
 pub returns : goal.returns
 returns c =
     let bs = c.args.block.now in
-    let n = c.in-ok-n.n in
+    let n = c.in_ok-n.n in
     let header = header_fault c.args.file c.args.number bs in
-    let head = clean _ _ header c.in-ok-n.ensures.answer in
-    let size = same_answer (number_at 2 2 bs) n header c.in-ok-n.ensures.answer in
-    let sum = clean tt tt (sum_fault c.args.file c.args.number bs) c.in-ok-check-sum.ensures in
-    let pad = ap (λ k. padding_fault c.args.file c.args.number k bs) (sym size) ∙ clean tt tt (padding_fault c.args.file c.args.number n bs) c.in-ok-check-padding.ensures in
+    let head = clean _ _ header c.in_ok-n.ensures.answer in
+    let size = same_answer (number_at 2 2 bs) n header c.in_ok-n.ensures.answer in
+    let sum = clean tt tt (sum_fault c.args.file c.args.number bs) c.in_ok-check_sum.ensures in
+    let pad = ap (λ k. padding_fault c.args.file c.args.number k bs) (sym size) ∙ clean tt tt (padding_fault c.args.file c.args.number n bs) c.in_ok-check_padding.ensures in
     let part : commands_in bs ≡ take (8 + n - 8) (drop 8 bs) = (let e : number_at 2 2 bs ≡ 8 + n - 8 = sym size ∙ (let z : n ≡ 8 + n - 8 = omega arith in z) in ap (λ k. take k (drop 8 bs)) e) in
-    let commands = ap (commands_fault c.args.file c.args.number c.args.marked) part ∙ clean tt tt _ c.in-ok-check-commands.ensures in
+    let commands = ap (commands_fault c.args.file c.args.number c.args.marked) part ∙ clean tt tt _ c.in_ok-check_commands.ensures in
     let is = ap (λ l. Ok (entries l)) (c.over.ensures.rest ∙ sym part) ∙ all_clean c.args.file c.args.number c.args.marked bs head sum pad commands in
     record { answer = is; back = back_from c.args.file c.args.number c.args.marked bs _ is; only = only_from c.args.file c.args.number c.args.marked bs _ is c.told-block c.fits-block }

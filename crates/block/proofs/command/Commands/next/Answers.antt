@@ -6,10 +6,10 @@ use Rattle.block.specs.Parsing.{entries, first_entry}
 use Rattle.block.proofs.Entries.{entries_head, entries_tail}
 use Rattle.block.proofs.command.Commands.next.Goals as goal
 
-pub returns-in-default : goal.returns-in-default
-returns-in-default c =
+pub returns-in_default : goal.returns-in_default
+returns-in_default c =
     let bs = c.args.self.now.rest.now in
-    let h : None ≡ first_entry bs = c.in-default.ensures.value in
+    let h : None ≡ first_entry bs = c.in_default.ensures.value in
     record { answer = entries_head bs None h; after = entries_tail bs None h; place = tt; end = refl; rest = refl; enough = omega arith }
 
 pub returns : goal.returns

@@ -2,14 +2,14 @@ use Rattle.std.proofs.Common.{◌≡◌, ◌+◌, ◌-◌, length, refl, arith, 
 use Rattle.block.proofs.Laying.{laid_whole, laid_clear, laid_bytes}
 use Rattle.block.proofs.draft.Draft.append.Goals as goal
 
-pub invariant-of-self : goal.invariant-of-self
-invariant-of-self g c =
+pub invariant_of-self : goal.invariant_of-self
+invariant_of-self g c =
     let self = c.args.self.now in
     let part = c.args.part.now in
     let size : length part ≡ g.row.N = search rules in
     let span : 8 + self.used + g.row.N - (8 + self.used) ≡ g.row.N = omega arith in
-    let is = c.copy-from-slice.ensures.after in
-    (c.requires, (laid_whole self.bytes _ part self.used _ g.row.N self.whole size c.requires is span, (laid_clear self.bytes _ part self.used _ g.row.N self.whole size c.requires is span self.clear, tt)))
+    let is = c.copy_from_slice.ensures.after in
+    record { room = c.requires; whole = laid_whole self.bytes _ part self.used _ g.row.N self.whole size c.requires is span; clear = laid_clear self.bytes _ part self.used _ g.row.N self.whole size c.requires is span self.clear }
 
 pub returns : goal.returns
 returns g c =
@@ -17,5 +17,5 @@ returns g c =
     let part = c.args.part.now in
     let size : length part ≡ g.row.N = search rules in
     let span : 8 + self.used + g.row.N - (8 + self.used) ≡ g.row.N = omega arith in
-    let is = c.copy-from-slice.ensures.after in
+    let is = c.copy_from_slice.ensures.after in
     record { bytes = laid_bytes self.bytes _ part self.used _ g.row.N self.whole size c.requires is span; len = refl }
