@@ -1,12 +1,12 @@
 -- What the lane of a file says of it, and what makes lanes sound.
-use Rattle.std.proofs.Common.{◌≡◌, ℕ, ◌+◌, ◌-◌, ◌<◌, ◌≤◌, true, false, eqb, ltb, leb, ◌≢◌, List, [], ◌∷◌, map, length, get_or, sym, refl, ap, ◌∙◌, subst, ⊎_elim, arith}
+use Rattle.std.proofs.Common.{◌≡◌, ℕ, ◌+◌, ◌-◌, ◌<◌, ◌≤◌, false, eqb, ltb, leb, ◌≢◌, List, [], ◌∷◌, length, get_or, sym, ap, ◌∙◌, subst, ⊎_elim, arith}
 use lib.ListN.{length-map}
 use Rattle.std.proofs.lemmas.Bool.{cases_lt, or_parts, eqb-false, ltb-false, leb-false}
 use Rattle.std.proofs.lemmas.List.{get_or_past}
 use Rattle.medium.specs.declared.mark.Mark.{Mark}
-use Rattle.medium.specs.Model.{FileModel, MediumModel, file_of, with_file, count_of}
+use Rattle.medium.specs.Model.{FileModel, MediumModel, file_of, count_of}
 use Rattle.medium.specs.Steps.{is_full, lacks, block_at, not_retirable}
-use Rattle.medium.specs.Sound.{Block, SoundFile, SoundMark, Sound}
+use Rattle.medium.specs.Sound.{Block, SoundFile, Sound}
 use Rattle.lane.specs.declared.lane.Lane.{Lane}
 use Rattle.lane.specs.Lanes.{slot, Shows}
 use Rattle.lane.specs.Meaning.{kept_of, file_of_lane, model_of, Long, Small}

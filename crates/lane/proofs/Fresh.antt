@@ -1,15 +1,15 @@
 -- Lanes with no block mean a fresh medium.
-use Rattle.std.proofs.Common.{◌≡◌, ℕ, ◌<◌, ◌≤◌, List, [], ◌∷◌, map, length, get_or, sym, refl, ap, ◌∙◌, subst, ⊎_elim, arith}
+use Rattle.std.proofs.Common.{◌≡◌, ℕ, ◌<◌, List, [], ◌∷◌, map, length, get_or, sym, refl, ap, ◌∙◌, ⊎_elim, arith}
 use lib.ListN.{length-map}
 use Rattle.std.proofs.lemmas.List.{get_or-map, get_or_past, same_lists}
 use Rattle.std.proofs.lemmas.Bool.{cases_lt}
 use Rattle.medium.specs.declared.mark.Mark.{Mark}
-use Rattle.medium.specs.Model.{FileModel, MediumModel, file_of, no_file}
-use Rattle.medium.specs.Sound.{zeros, fresh_file, fresh_of, FreshFile, Fresh}
+use Rattle.medium.specs.Model.{FileModel, MediumModel, file_of}
+use Rattle.medium.specs.Sound.{zeros, fresh_file, fresh_of, Fresh}
 use Rattle.lane.specs.declared.lane.Lane.{Lane}
 use Rattle.lane.specs.Lanes.{Sized, Unused}
 use Rattle.lane.specs.Meaning.{kept_of, file_of_lane, model_of, Long, Small}
-use Rattle.lane.proofs.Kept.{length_kept, at_file}
+use Rattle.lane.proofs.Kept.{length_kept}
 
 no_items : {X : Type 0} (xs : List X) → length xs ≡ 0 → xs ≡ []
 no_items [] e = refl

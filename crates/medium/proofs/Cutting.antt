@@ -1,9 +1,9 @@
 -- What a cut leaves is what a cut may leave.
-use Rattle.std.proofs.Common.{◌≡◌, ℕ, zero, suc, ◌+◌, ◌-◌, ◌<◌, ◌≤◌, min, List, [], ◌∷◌, ◌++◌, length, get_or, take, drop, sym, refl, ap, ◌∙◌, subst, arith}
+use Rattle.std.proofs.Common.{◌≡◌, ℕ, zero, suc, ◌+◌, ◌<◌, ◌≤◌, min, List, [], ◌∷◌, ◌++◌, length, get_or, take, drop, refl, ap, ◌∙◌, subst, arith}
 use Rattle.std.proofs.lemmas.List.{length-append, length-take, get_or-append_right}
-use Rattle.medium.specs.Model.{FileModel, MediumModel, file_of, count_of, no_file}
+use Rattle.medium.specs.Model.{FileModel, MediumModel, file_of, no_file}
 use Rattle.medium.specs.Sound.{Block, SoundFile, Sound}
-use Rattle.medium.specs.Cuts.{lasting, unsynced, cut_file, CutFile, Cut, cut_files, cut_after}
+use Rattle.medium.specs.Cuts.{lasting, unsynced, cut_file, Cut, cut_files, cut_after}
 
 record Part (f g : FileModel) : Type 0 where
   tail : List (List ℕ)

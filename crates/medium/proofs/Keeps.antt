@@ -1,12 +1,12 @@
 -- Each call keeps a medium sound, and so does a cut.
-use Rattle.std.proofs.Common.{◌≡◌, ℕ, ◌+◌, ◌-◌, ◌<◌, ◌≤◌, true, false, eqb, ltb, ◌≢◌, List, [], ◌∷◌, ◌++◌, length, get_or, take, drop, set, sym, refl, ap, ◌∙◌, subst, ⊎_elim, arith, length-set, get_or-set_other, get_or-set_same}
+use Rattle.std.proofs.Common.{◌≡◌, ℕ, ◌+◌, ◌-◌, ◌<◌, ◌≤◌, false, eqb, ltb, ◌≢◌, List, [], ◌∷◌, ◌++◌, length, get_or, set, sym, refl, ap, ◌∙◌, subst, ⊎_elim, arith, length-set, get_or-set_other, get_or-set_same}
 use Rattle.std.proofs.lemmas.Bool.{cases_lt, cases_eq, cond_both, or_parts, eqb-false, ltb-false}
 use Rattle.std.proofs.lemmas.List.{length-append, length-drop, length-take-le, get_or_append_left, get_or-append_right, get_or-drop, get_or-take}
 use Rattle.medium.specs.declared.mark.Mark.{Mark}
 use Rattle.medium.specs.Model.{FileModel, MediumModel, file_of, count_of, with_file, no_file}
 use Rattle.medium.specs.Steps.{no_such_file, is_full, longer, all_synced, retired, not_retirable, append_after, sync_after, retire_after, set_mark_after}
 use Rattle.medium.specs.Sound.{Block, SoundFile, SoundMark, Sound}
-use Rattle.medium.specs.Cuts.{lasting, unsynced, trimmed, cut_file, CutFile, Cut}
+use Rattle.medium.specs.Cuts.{lasting, unsynced, trimmed, cut_file, Cut}
 
 pub joined : (xs ys : List (List ℕ)) → ((k : ℕ) → k < length xs → Block (get_or xs k [])) → ((k : ℕ) → k < length ys → Block (get_or ys k [])) → (k : ℕ) → k < length (xs ++ ys) → Block (get_or (xs ++ ys) k [])
 joined xs ys hx hy k lt =
