@@ -1,28 +1,27 @@
 -- The marked epoch lies before all that is under way, and never falls.
-use Rattle.std.proofs.Common.{◌≡◌, ℕ, zero, suc, ◌+◌, ◌-◌, ◌<◌, ◌≤◌, min, Bool, true, false, cond, not, ◌&&◌, eqb, ltb, leb, List, [], ◌∷◌, ◌++◌, length, get_or, set, IfOk, Some, None, Ok, Err, Option, Result, sym, refl, ap, ◌∙◌, subst, arith}
+use Rattle.std.proofs.Common.{◌≡◌, ℕ, zero, suc, ◌+◌, ◌-◌, ◌<◌, ◌≤◌, min, Bool, true, false, cond, not, ◌&&◌, eqb, ltb, leb, List, [], ◌∷◌, ◌++◌, length, get_or, set, IfOk, Some, None, Ok, Err, Option, Result, sym, refl, ap, subst, arith}
 use Rattle.std.specs.List.{AllByRecursion as All}
 use Rattle.block.specs.Fitting.{fits, room}
 use Rattle.block.specs.Format.{content}
 use Rattle.table.specs.Order.{most_records}
 use Rattle.table.specs.Records.{look}
-use Rattle.rules.specs.Transactions.{Done, Read, Locked, Installed, is_phase, most_keys, is_some, begin_rule, begun, noting, note_read, with_cell, read_record, read_own, read_rule, changed, changing, cell_fits, change_rule, any_held, lock_keys, locking, lock_rule, any_changed, greatest_seen, next_tid, needs, validating, validate_tid, validate_rule, install_keys, commands, ended, logging, install_rule, abandoned, abandon_rule}
-use Rattle.std.proofs.ByRecursion.{All-set, All-get_or}
+use Rattle.rules.specs.Transactions.{Done, Read, Locked, is_phase, most_keys, is_some, begin_rule, begun, noting, note_read, with_cell, read_own, read_rule, changed, changing, cell_fits, change_rule, any_held, lock_keys, locking, lock_rule, any_changed, greatest_seen, next_tid, needs, validating, validate_tid, validate_rule, install_keys, commands, ended, logging, install_rule, abandoned, abandon_rule}
+use Rattle.std.proofs.ByRecursion.{All-set}
 use Rattle.base.specs.declared.key.Key.{Key}
 use Rattle.base.specs.declared.refusal.Refusal.{Refusal}
 use Rattle.base.specs.declared.refusal.Refusal.TheVariants.{WorkerBusy, WrongTicket, ValueOutOfRange, TooManyKeys, KeyLocked, ReadChanged, TableFull, ReadsInvalid, NoRoomInBlock, NoSuchIndex, NothingToSpill, AdvanceHeldBack, LastEpoch, NoCheckpointWalking}
-use Rattle.medium.specs.Model.{MediumModel, FileModel, file_of, count_of, with_file}
-use Rattle.medium.specs.Sound.{Fresh}
+use Rattle.medium.specs.Model.{MediumModel, file_of, with_file}
 use Rattle.medium.specs.Steps.{append_answer, append_after, is_full, longer, sync_answer, sync_after, all_synced, retire_answer, retire_after, not_retirable, retired, set_mark_after}
 use Rattle.medium.specs.declared.mark.Mark.{Mark}
 use Rattle.table.specs.declared.record.Record.{Record}
 use Rattle.rules.specs.declared.call.Call.{Call}
 use Rattle.rules.specs.declared.call.Call.TheVariants as call
-use Rattle.rules.specs.State.{Change, tid_in, cell_in, holder_in, change_of, note_of, Cell, Phase, idle, reading, locked, validated, Worker, Logger, Cursor, Checkpoint, none, walking, closed, State, no_worker, empty_logger, worker_of, logger_at, logger_of, least, with_worker, with_table, with_logger, with_epoch, with_checkpoint, with_results, with_medium}
+use Rattle.rules.specs.State.{Change, tid_in, cell_in, holder_in, change_of, note_of, Cell, Phase, idle, reading, locked, validated, Worker, Logger, Cursor, Checkpoint, none, walking, closed, State, no_worker, empty_logger, worker_of, logger_at, logger_of, least, with_logger, with_checkpoint, with_medium}
 use Rattle.rules.specs.Logging.{any_older, advance_rule, emptied, spilled_to, spill_rule, lasting, same_mark, in_force, release_rule, void_rule, held_epoch, least_of_workers, least_of_loggers, least_or, persistent, new_mark, plain_mark, forced_mark}
 use Rattle.base.specs.Limits.{last_epoch}
 use Rattle.block.specs.Format.{sealed}
-use Rattle.rules.specs.Checkpoints.{fresh_cursor, start_rule, Stepped, step_rule, stepped, stepped_with, close_rule, that_fit, next_records, rows}
-use Rattle.rules.specs.Calls.{Outcome, refused, answered, up_to_3, begin_call, read_call, change_call, lock_call, validate_call, install_call, abandon_call, advance_call, spill_call, sync_call, persist_at, spent, checkpoint_call, step_call, step_in, retire_call, taken_in, rule, played, opened}
+use Rattle.rules.specs.Checkpoints.{fresh_cursor, start_rule, step_rule, stepped, stepped_with, close_rule, that_fit, next_records, rows}
+use Rattle.rules.specs.Calls.{Outcome, refused, answered, up_to_3, begin_call, read_call, change_call, lock_call, validate_call, install_call, abandon_call, advance_call, spill_call, sync_call, persist_at, spent, checkpoint_call, step_call, step_in, retire_call, taken_in, rule, played}
 use Rattle.rules.specs.Laws.{Above, Pending, EpochNeverFalls, OpensSo}
 
 -- no call of the medium but set-mark changes the mark
@@ -170,7 +169,7 @@ module _ (d : ℕ) (x : Worker) (a : Above d (held_epoch x)) where
   unfolding change_rule
   changes_kept k c = by (not (is_phase reading x.phase)) (not (cell_fits c)) (not (is_some (change_of k x.changes)) && leb most_keys (length x.changes))
     where
-      by : (p q r : Bool) → IfOk {X = Done Worker} (cond p (Err WrongTicket) (cond q (Err ValueOutOfRange) (cond r (Err TooManyKeys) (Ok (record { new = changing x k c; answer = length (changed k c x.changes) }))))) (λ r. Above d (held_epoch r.new))
+      by : (p q r : Bool) → IfOk {T = Done Worker} (cond p (Err WrongTicket) (cond q (Err ValueOutOfRange) (cond r (Err TooManyKeys) (Ok (record { new = changing x k c; answer = length (changed k c x.changes) }))))) (λ r. Above d (held_epoch r.new))
       by true q r = tt
       by false true r = tt
       by false false true = tt
@@ -180,7 +179,7 @@ module _ (d : ℕ) (x : Worker) (a : Above d (held_epoch x)) where
   unfolding lock_rule
   locks_kept e w t l = by (not (is_phase reading x.phase)) (any_held w t x.changes) (ltb most_records (length (lock_keys w x.changes t)))
     where
-      by : (p q r : Bool) → IfOk {X = Locked} (cond p (Err WrongTicket) (cond q (Err KeyLocked) (cond r (Err TableFull) (Ok (record { new = locking e x; table = lock_keys w x.changes t }))))) (λ r. Above d (held_epoch r.new))
+      by : (p q r : Bool) → IfOk {T = Locked} (cond p (Err WrongTicket) (cond q (Err KeyLocked) (cond r (Err TableFull) (Ok (record { new = locking e x; table = lock_keys w x.changes t }))))) (λ r. Above d (held_epoch r.new))
       by true q r = tt
       by false true r = tt
       by false false true = tt

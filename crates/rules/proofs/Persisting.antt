@@ -1,5 +1,5 @@
 -- The last persist's answer is the marked epoch.
-use Rattle.std.proofs.Common.{◌≡◌, ℕ, Bool, true, false, cond, ◌&&◌, List, [], ◌∷◌, sym, refl, ap, ◌∙◌, arith}
+use Rattle.std.proofs.Common.{◌≡◌, ℕ, Bool, true, false, cond, [], ◌∷◌, sym, refl, ap, ◌∙◌, arith}
 use Rattle.std.proofs.lemmas.Bool.{and_parts, eqb-true}
 use Rattle.medium.specs.Steps.{set_mark_after}
 use Rattle.medium.specs.declared.mark.Mark.{Mark}
@@ -7,11 +7,11 @@ use Rattle.rules.specs.declared.call.Call.{Call}
 use Rattle.rules.specs.declared.call.Call.TheVariants as call
 use Rattle.rules.specs.declared.call.Answer.{Answer}
 use Rattle.rules.specs.declared.call.Answer.TheVariants.{Number, Cell as Cell-answer, No}
-use Rattle.rules.specs.State.{State, Checkpoint, none, with_medium}
+use Rattle.rules.specs.State.{State, with_medium}
 use Rattle.rules.specs.Calls.{rule, played, history, persist_at}
 use Rattle.rules.specs.Laws.{is_persist, MarkedAsAnswered}
 use Rattle.rules.specs.Logging.{persistent, new_mark, same_mark}
-use Rattle.rules.specs.Serial.{Story, told_by, told, story_from}
+use Rattle.rules.specs.Serial.{Story, told_by, story_from}
 use Rattle.rules.proofs.Epochs.{new_epoch}
 use Rattle.rules.proofs.Refusing.{careful}
 

@@ -1,19 +1,17 @@
 -- A refused call changes nothing, and no call changes the medium twice.
-use Rattle.std.proofs.Common.{◌≡◌, ℕ, ◌+◌, Bool, true, false, cond, eqb, ltb, List, [], ◌∷◌, length, get_or, Some, None, Ok, Err, Option, Result, sym, refl, ap, ◌∙◌, arith}
+use Rattle.std.proofs.Common.{◌≡◌, ℕ, ◌+◌, Bool, true, false, cond, eqb, ltb, List, [], ◌∷◌, length, get_or, Some, None, Ok, Err, Option, Result, refl, arith}
 use Rattle.base.specs.declared.refusal.Refusal.{Refusal}
 use Rattle.base.specs.declared.refusal.Refusal.TheVariants.{NoSuchIndex, NothingToSpill}
-use Rattle.medium.specs.Model.{MediumModel}
-use Rattle.medium.specs.Steps.{append_answer, append_after, sync_answer, sync_after, retire_answer, retire_after, set_mark_after}
+use Rattle.medium.specs.Steps.{append_answer, sync_answer, retire_answer, set_mark_after}
 use Rattle.block.specs.Format.{content, sealed}
 use Rattle.table.specs.declared.record.Record.{Record}
 use Rattle.rules.specs.declared.call.Call.{Call}
 use Rattle.rules.specs.declared.call.Call.TheVariants as call
-use Rattle.rules.specs.declared.call.Answer.{Answer}
-use Rattle.rules.specs.declared.call.Answer.TheVariants.{Number, Cell as Seen, No}
-use Rattle.rules.specs.State.{Worker, Logger, Cursor, Checkpoint, none, walking, closed, State, worker_of, logger_at, logger_of, with_medium, with_logger}
+use Rattle.rules.specs.declared.call.Answer.TheVariants.{Number, No}
+use Rattle.rules.specs.State.{Worker, Logger, Cursor, Checkpoint, none, walking, closed, State, worker_of, logger_at, logger_of, with_medium}
 use Rattle.rules.specs.Transactions.{Done, Read, Locked, Installed, begin_rule, read_rule, change_rule, lock_rule, validate_rule, install_rule, abandon_rule}
-use Rattle.rules.specs.Logging.{advance_rule, Spilled, spill_rule, spilled_to, persistent, new_mark, same_mark, in_force, release_rule, void_rule, lasting, emptied}
-use Rattle.rules.specs.Checkpoints.{fresh_cursor, start_rule, Stepped, step_rule, stepped, stepped_with, close_rule, that_fit, next_records, rows}
+use Rattle.rules.specs.Logging.{advance_rule, spill_rule, spilled_to, persistent, new_mark, same_mark, release_rule, void_rule}
+use Rattle.rules.specs.Checkpoints.{fresh_cursor, start_rule, step_rule, stepped, stepped_with, close_rule, that_fit, next_records, rows}
 use Rattle.rules.specs.Calls.{Outcome, refused, answered, up_to_3, begin_call, read_call, change_call, lock_call, validate_call, install_call, abandon_call, advance_call, spill_call, sync_call, persist_at, spent, checkpoint_call, step_call, step_in, retire_call, taken_in, rule}
 use Rattle.rules.proofs.Epochs.{mark_append, mark_sync, mark_retire}
 use Rattle.rules.specs.Laws.{is_persist, RefusalsChangeNothing, Touched, untouched, appended, synced, retired, marked, OneChangeAtMost}

@@ -1,12 +1,12 @@
 -- Versions may be replayed in any order: the largest TID of each key stays.
-use Rattle.std.proofs.Common.{◌≡◌, ℕ, ◌<◌, ◌≤◌, Bool, true, false, cond, ◌&&◌, ltb, List, [], ◌∷◌, Some, None, Option, sym, refl, ap, ◌∙◌, ⊎_elim, arith}
+use Rattle.std.proofs.Common.{◌≡◌, ℕ, Bool, true, false, cond, ltb, List, Some, None, Option, sym, refl, ap, ◌∙◌, ⊎_elim, arith}
 use Rattle.std.proofs.lemmas.Bool.{cases_lt, lt-ltb, le-ltb}
 use Rattle.std.proofs.lemmas.Bool.Decides.{nat_tests}
 use Rattle.base.specs.declared.key.Key.{Key}
 use Rattle.table.specs.Order.{same_key, sorted}
 use Rattle.table.specs.Records.{look, put}
 use Rattle.table.specs.declared.record.Record.{Record}
-use Rattle.table.proofs.Keys.{same_key_true, same_key_refl}
+use Rattle.table.proofs.Keys.{same_key_true}
 use Rattle.table.proofs.Looks.{look-put}
 use Rattle.table.proofs.Shapes.{sorted-put, same_from_look}
 use Rattle.rules.specs.State.{tid_in}

@@ -1,6 +1,5 @@
 -- One rule for each call, from state and arguments to state and answer.
-use Rattle.std.specs.Prelude.{ℕ, ◌+◌, ◌-◌, Bool, true, false, cond, not, ◌&&◌, ◌||◌, List, [], ◌∷◌, ◌++◌, map, length, replicate, ℤ, Some, None, Ok, Err, Option, Result, ◌==◌, bit_or, count_ones, nat_lt, slice_index, slice_index_or, slice_set}
-use Rattle.base.specs.declared.key.Key.{Key}
+use Rattle.std.specs.Prelude.{ℕ, ◌+◌, ◌-◌, Bool, true, cond, not, ◌&&◌, List, [], ◌∷◌, ◌++◌, length, replicate, Some, None, Ok, Err, Option, Result, ◌==◌, bit_or, count_ones, nat_lt, slice_index, slice_index_or, slice_set}
 use Rattle.base.specs.declared.refusal.Refusal.{Refusal}
 use Rattle.base.specs.declared.refusal.Refusal.TheVariants.{MasksUnfit, MediumNotFresh, NoSuchIndex, NoCheckpointWalking}
 use Rattle.medium.specs.Model.{FileModel, MediumModel, file_of, count_of}
@@ -12,9 +11,9 @@ use Rattle.rules.specs.declared.call.Call.TheVariants as call
 use Rattle.rules.specs.declared.call.Answer.{Answer}
 use Rattle.rules.specs.declared.call.Answer.TheVariants.{Number, Cell as Seen, No}
 use Rattle.rules.specs.declared.call.Event.{Event}
-use Rattle.rules.specs.State.{Cell, Worker, Logger, Cursor, Checkpoint, none, walking, closed, Held, State, no_worker, empty_logger, worker_of, logger_at, logger_of, cell_in, with_worker, with_table, with_logger, with_epoch, with_checkpoint, with_results, with_medium}
+use Rattle.rules.specs.State.{Worker, Cursor, Checkpoint, none, walking, closed, State, no_worker, empty_logger, worker_of, logger_at, logger_of, cell_in, with_worker, with_table, with_logger, with_epoch, with_checkpoint, with_results, with_medium}
 use Rattle.rules.specs.Transactions.{Done, Read, Locked, Installed, begin_rule, read_rule, change_rule, lock_rule, validate_rule, install_rule, abandon_rule}
-use Rattle.rules.specs.Logging.{advance_rule, reserved_from, Spilled, spill_rule, lasting, persistent, new_mark, same_mark, same_numbers, in_force, release_rule, void_rule, without}
+use Rattle.rules.specs.Logging.{advance_rule, reserved_from, Spilled, spill_rule, lasting, persistent, new_mark, same_mark, in_force, release_rule, void_rule, without}
 use Rattle.rules.specs.Checkpoints.{fresh_cursor, start_rule, Stepped, step_rule, close_rule}
 
 -- open: every worker has one logger, and the medium is fresh

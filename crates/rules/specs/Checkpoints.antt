@@ -1,5 +1,5 @@
 -- The fuzzy checkpoint: a walk over the table while commits go on.
-use Rattle.std.specs.Prelude.{ℕ, ◌+◌, ◌%◌, Bool, true, false, cond, not, ◌&&◌, ◌||◌, List, [], ◌∷◌, ◌++◌, length, drop, Some, None, Ok, Err, Option, Result, ◌==◌}
+use Rattle.std.specs.Prelude.{ℕ, ◌+◌, ◌%◌, Bool, true, false, cond, not, ◌&&◌, List, [], ◌∷◌, length, drop, Some, None, Ok, Err, Option, Result, ◌==◌}
 use Rattle.base.specs.declared.key.Key.{Key}
 use Rattle.base.specs.declared.refusal.Refusal.{Refusal}
 use Rattle.base.specs.declared.refusal.Refusal.TheVariants.{CheckpointUnderWay, NoCheckpointWalking, CheckpointUnfinished}
@@ -7,7 +7,7 @@ use Rattle.block.specs.Fitting.{fits, room}
 use Rattle.block.specs.Format.{content, size_of, sealed}
 use Rattle.block.specs.declared.entry.Entry.{Entry}
 use Rattle.block.specs.declared.entry.Entry.TheVariants.{Row, Gone}
-use Rattle.medium.specs.Model.{FileModel, MediumModel, file_of, count_of}
+use Rattle.medium.specs.Model.{FileModel, MediumModel, count_of}
 use Rattle.medium.specs.Steps.{append_answer, append_after}
 use Rattle.table.specs.Order.{behind}
 use Rattle.table.specs.declared.record.Record.{Record}

@@ -1,9 +1,9 @@
 -- Numbers that the rules must give.
-use Rattle.std.specs.Prelude.{◌≡◌, ℕ, Bool, true, false, List, [], ◌∷◌, replicate, pos, Some, None, Option}
+use Rattle.std.specs.Prelude.{◌≡◌, ℕ, true, false, [], ◌∷◌, replicate, pos, Some, None}
 use Rattle.base.specs.declared.key.Key.{Key}
 use Rattle.block.specs.Fitting.{fits, room, needed}
 use Rattle.block.specs.Fletcher.{fletcher16}
-use Rattle.rules.specs.State.{Cell, locked, Worker, Logger, no_worker, empty_logger}
+use Rattle.rules.specs.State.{locked, Worker, no_worker, empty_logger}
 use Rattle.rules.specs.Transactions.{next_tid}
 use Rattle.rules.specs.Logging.{persistent}
 use Rattle.rules.specs.Recovery.{Version, offered, seen}

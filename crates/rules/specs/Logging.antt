@@ -1,13 +1,13 @@
 -- Epochs, logs and results: the rules, each over what it touches.
-use Rattle.std.specs.Prelude.{ℕ, ◌+◌, ◌-◌, min, Bool, true, false, cond, not, ◌&&◌, ◌||◌, List, [], ◌∷◌, ◌++◌, length, take, drop, Some, None, Ok, Err, Option, Result, ◌==◌, nat_le, nat_lt}
+use Rattle.std.specs.Prelude.{ℕ, ◌+◌, ◌-◌, min, Bool, true, false, cond, ◌&&◌, ◌||◌, List, [], ◌∷◌, ◌++◌, length, take, drop, Some, None, Ok, Err, Option, Result, ◌==◌, nat_le, nat_lt}
 use Rattle.base.specs.Limits.{last_epoch}
 use Rattle.base.specs.declared.refusal.Refusal.{Refusal}
 use Rattle.base.specs.declared.refusal.Refusal.TheVariants.{AdvanceHeldBack, LastEpoch, NothingToSpill, NotPersistent, WrongTicket}
 use Rattle.block.specs.Format.{sealed}
-use Rattle.medium.specs.Model.{FileModel, MediumModel, file_of, count_of}
+use Rattle.medium.specs.Model.{FileModel, MediumModel}
 use Rattle.medium.specs.Steps.{append_answer, append_after}
 use Rattle.medium.specs.declared.mark.Mark.{Mark}
-use Rattle.rules.specs.State.{Phase, idle, reading, locked, validated, Worker, Logger, Checkpoint, none, walking, closed, Held, least}
+use Rattle.rules.specs.State.{idle, reading, locked, validated, Worker, Logger, Checkpoint, none, walking, closed, Held, least}
 use Rattle.rules.specs.Transactions.{needs}
 
 -- a worker that is locked or validated holds its lock epoch

@@ -8,7 +8,7 @@ use Rattle.rules.specs.declared.call.Call.{Call}
 use Rattle.rules.specs.declared.call.Event.{Event}
 use Rattle.rules.specs.Calls.{masks_fit, opened, played, history}
 use Rattle.rules.specs.Recovery.{Recovery, Replayed, replay_rule}
-use Rattle.rules.specs.Serial.{Story, Txn, story_from, before_all, serial}
+use Rattle.rules.specs.Serial.{Txn, story_from, before_all, serial}
 
 pub record Night : Type 0 where
   pub masks : List ℕ

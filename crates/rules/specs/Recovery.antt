@@ -1,13 +1,12 @@
 -- Recovery: start, replay in any order of files, finish.
-use Rattle.std.specs.Prelude.{◌≡◌, ℕ, ◌+◌, ◌-◌, Bool, true, false, cond, not, ◌&&◌, ◌||◌, List, [], ◌∷◌, ◌++◌, length, ℤ, Some, None, Ok, Err, Option, Result, nat_le, nat_lt, slice_index, slice_set}
+use Rattle.std.specs.Prelude.{◌≡◌, ℕ, ◌+◌, Bool, true, cond, ◌&&◌, ◌||◌, List, [], ◌∷◌, length, Some, None, Ok, Err, Option, Result, nat_le, nat_lt, slice_index, slice_set}
 use Rattle.base.specs.Faults.{from_medium, from_block}
 use Rattle.base.specs.Tids.{epoch_of}
-use Rattle.base.specs.declared.fault.MediumFault.{MediumFault}
 use Rattle.base.specs.declared.fault.BlockFault.{BlockFault}
 use Rattle.base.specs.declared.fault.ReplayFault.{ReplayFault}
 use Rattle.base.specs.declared.key.Key.{Key}
 use Rattle.base.specs.declared.refusal.Refusal.{Refusal}
-use Rattle.base.specs.declared.refusal.Refusal.TheVariants.{NoSuchIndex, BlocksLeft, TableFull, NoBlockLeft, MarkUnsound}
+use Rattle.base.specs.declared.refusal.Refusal.TheVariants.{BlocksLeft, TableFull, NoBlockLeft, MarkUnsound}
 use Rattle.block.specs.Checks.{read_answer}
 use Rattle.block.specs.Format.{size_of}
 use Rattle.block.specs.declared.entry.Entry.{Entry}

@@ -1,5 +1,5 @@
 -- The serial run behind a history: made from calls, arguments and answers alone.
-use Rattle.std.specs.Prelude.{◌≡◌, ℕ, ◌+◌, Bool, true, false, cond, List, [], ◌∷◌, ◌++◌, length, Some, None, Option, ◌==◌, nat_eq, nat_le}
+use Rattle.std.specs.Prelude.{◌≡◌, ℕ, Bool, false, cond, List, [], ◌∷◌, ◌++◌, Some, None, Option, ◌==◌, nat_eq, nat_le}
 use Rattle.base.specs.declared.key.Key.{Key}
 use Rattle.table.specs.Order.{same_key}
 use Rattle.rules.specs.declared.call.Call.{Call}

@@ -1,10 +1,8 @@
 -- The state of a store with its medium.
-use Rattle.std.specs.Prelude.{ℕ, ◌+◌, ◌*◌, ◌/◌, ◌%◌, ◌^◌, min, Bool, true, false, cond, List, [], ◌∷◌, set, replicate, ℤ, Some, None, Option, ◌==◌, slice_index_or, slice_set}
+use Rattle.std.specs.Prelude.{ℕ, ◌+◌, ◌/◌, ◌%◌, ◌^◌, min, Bool, cond, List, [], ◌∷◌, ℤ, Some, None, Option, ◌==◌, slice_index_or, slice_set}
 use Rattle.base.specs.declared.key.Key.{Key}
-use Rattle.block.specs.declared.entry.Entry.{Entry}
 use Rattle.medium.specs.Model.{MediumModel}
 use Rattle.table.specs.Order.{same_key}
-use Rattle.table.specs.Records.{look}
 use Rattle.table.specs.declared.record.Record.{Record}
 
 -- a value, or absence

@@ -1,5 +1,5 @@
 -- The rules of one transaction, each over what it touches. Refusals stand in the order in which they count.
-use Rattle.std.specs.Prelude.{ℕ, ◌+◌, ◌*◌, max, Bool, true, false, cond, not, ◌&&◌, ◌||◌, List, [], ◌∷◌, ◌++◌, length, ℤ, Some, None, Ok, Err, Option, Result, ◌==◌, nat_le, nat_lt}
+use Rattle.std.specs.Prelude.{ℕ, ◌+◌, ◌*◌, max, Bool, true, false, cond, not, ◌&&◌, ◌||◌, List, [], ◌∷◌, ◌++◌, length, Some, None, Ok, Err, Option, Result, ◌==◌, nat_le, nat_lt}
 use Rattle.base.specs.Limits.{value_fits}
 use Rattle.base.specs.declared.key.Key.{Key}
 use Rattle.base.specs.declared.refusal.Refusal.{Refusal}
@@ -7,7 +7,7 @@ use Rattle.base.specs.declared.refusal.Refusal.TheVariants.{ValueOutOfRange, Wor
 use Rattle.block.specs.Fitting.{fits, room, needed}
 use Rattle.block.specs.Format.{content}
 use Rattle.block.specs.declared.entry.Entry.{Entry}
-use Rattle.block.specs.declared.entry.Entry.TheVariants.{Txn, Put, Del, Row, Gone}
+use Rattle.block.specs.declared.entry.Entry.TheVariants.{Txn, Put, Del}
 use Rattle.table.specs.Order.{same_key, most_records}
 use Rattle.table.specs.Records.{look, put, take_out}
 use Rattle.table.specs.declared.record.Record.{Record}
