@@ -1,6 +1,6 @@
 -- The marked epoch lies before all that is under way, and never falls.
 use Rattle.std.proofs.Common.{◌≡◌, ℕ, zero, suc, ◌+◌, ◌-◌, ◌<◌, ◌≤◌, min, Bool, true, false, cond, not, ◌&&◌, eqb, ltb, leb, List, [], ◌∷◌, ◌++◌, length, get_or, set, IfOk, Some, None, Ok, Err, Option, Result, sym, refl, ap, subst, arith}
-use Rattle.std.specs.List.{AllByRecursion as All}
+use Rattle.std.specs.List.{AllByRecursion}
 use Rattle.block.specs.Fitting.{fits, room}
 use Rattle.block.specs.Format.{content}
 use Rattle.table.specs.Order.{most_records}
@@ -56,11 +56,11 @@ above_least d (Some m) (Some n) a b = min-above d m n a b
     min-above : (d m n : ℕ) → d < m → d < n → d < min m n
     min-above d m n a b = omega arith
 
-above_workers : (d : ℕ) (ws : List Worker) → All (λ x. Above d (held_epoch x)) ws → Above d (least_of_workers ws)
+above_workers : (d : ℕ) (ws : List Worker) → AllByRecursion (λ x. Above d (held_epoch x)) ws → Above d (least_of_workers ws)
 above_workers d [] h = tt
 above_workers d (x ∷ xs) h = above_least d (held_epoch x) (least_of_workers xs) h.0 (above_workers d xs h.1)
 
-above_loggers : (d : ℕ) (gs : List Logger) → All (λ g. Above d g.held × Above d g.spilled) gs → Above d (least_of_loggers gs)
+above_loggers : (d : ℕ) (gs : List Logger) → AllByRecursion (λ g. Above d g.held × Above d g.spilled) gs → Above d (least_of_loggers gs)
 above_loggers d [] h = tt
 above_loggers d (g ∷ gs) h = above_least d (least g.held g.spilled) (least_of_loggers gs) (above_least d g.held g.spilled h.0.0 h.0.1) (above_loggers d gs h.1)
 
@@ -69,7 +69,7 @@ above_or d e None a b = a
 above_or d e (Some n) a b = omega arith
 
 -- what is under way keeps the persistent epoch below itself
-pub marked_below : (d e : ℕ) (ws : List Worker) (gs : List Logger) → d < e → All (λ x. Above d (held_epoch x)) ws → All (λ g. Above d g.held × Above d g.spilled) gs → d ≤ persistent e ws gs
+pub marked_below : (d e : ℕ) (ws : List Worker) (gs : List Logger) → d < e → AllByRecursion (λ x. Above d (held_epoch x)) ws → AllByRecursion (λ g. Above d g.held × Above d g.spilled) gs → d ≤ persistent e ws gs
 unfolding persistent
 marked_below d e ws gs a b c =
     let l = above_or d e (least (least_of_workers ws) (least_of_loggers gs)) a (above_least d (least_of_workers ws) (least_of_loggers gs) (above_workers d ws b) (above_loggers d gs c)) in
@@ -94,11 +94,11 @@ one_less : (n : ℕ) (o : Option ℕ) → 0 < n → Upto n o → Above (n - 1) o
 one_less n None p h = tt
 one_less n (Some m) p h = omega arith
 
-less_workers : (n : ℕ) (ws : List Worker) → 0 < n → Upto n (least_of_workers ws) → All (λ x. Above (n - 1) (held_epoch x)) ws
+less_workers : (n : ℕ) (ws : List Worker) → 0 < n → Upto n (least_of_workers ws) → AllByRecursion (λ x. Above (n - 1) (held_epoch x)) ws
 less_workers n [] p h = tt
 less_workers n (x ∷ xs) p h = let u = upto_parts n (held_epoch x) (least_of_workers xs) h in (one_less n (held_epoch x) p u.0, less_workers n xs p u.1)
 
-less_loggers : (n : ℕ) (gs : List Logger) → 0 < n → Upto n (least_of_loggers gs) → All (λ g. Above (n - 1) g.held × Above (n - 1) g.spilled) gs
+less_loggers : (n : ℕ) (gs : List Logger) → 0 < n → Upto n (least_of_loggers gs) → AllByRecursion (λ g. Above (n - 1) g.held × Above (n - 1) g.spilled) gs
 less_loggers n [] p h = tt
 less_loggers n (g ∷ gs) p h =
     let u = upto_parts n (least g.held g.spilled) (least_of_loggers gs) h in
@@ -106,7 +106,7 @@ less_loggers n (g ∷ gs) p h =
     ((one_less n g.held p v.0, one_less n g.spilled p v.1), less_loggers n gs p u.1)
 
 -- the persistent epoch itself lies before all that is under way
-pub persistent-pending : (d e : ℕ) (ws : List Worker) (gs : List Logger) → d < e → All (λ x. Above d (held_epoch x)) ws → All (λ g. Above d g.held × Above d g.spilled) gs → (persistent e ws gs < e) × All (λ x. Above (persistent e ws gs) (held_epoch x)) ws × All (λ g. Above (persistent e ws gs) g.held × Above (persistent e ws gs) g.spilled) gs
+pub persistent-pending : (d e : ℕ) (ws : List Worker) (gs : List Logger) → d < e → AllByRecursion (λ x. Above d (held_epoch x)) ws → AllByRecursion (λ g. Above d g.held × Above d g.spilled) gs → (persistent e ws gs < e) × AllByRecursion (λ x. Above (persistent e ws gs) (held_epoch x)) ws × AllByRecursion (λ g. Above (persistent e ws gs) g.held × Above (persistent e ws gs) g.spilled) gs
 unfolding persistent
 persistent-pending d e ws gs a b c =
     let o = least (least_of_workers ws) (least_of_loggers gs) in
@@ -117,7 +117,7 @@ persistent-pending d e ws gs a b c =
     (omega (arith, u.0), less_workers n ws p v.0, less_loggers n gs p v.1)
 
 -- what holds of all and of the default holds of any item
-any_item : {A : Type 0} (P : A → Type 0) (xs : List A) (i : ℕ) (d : A) → All P xs → P d → P (get_or xs i d)
+any_item : {A : Type 0} (P : A → Type 0) (xs : List A) (i : ℕ) (d : A) → AllByRecursion P xs → P d → P (get_or xs i d)
 any_item P [] i d h p = p
 any_item P (x ∷ xs) zero d h p = h.0
 any_item P (x ∷ xs) (suc i) d h p = any_item P xs i d h.1 p
@@ -247,10 +247,10 @@ module _ (s : State) (h : Pending s) where
   above_logger : (l : ℕ) → Above d (logger_at s l).held × Above d (logger_at s l).spilled
   above_logger l = any_item (λ g. Above d g.held × Above d g.spilled) s.loggers l empty_logger h.loggers (tt, tt)
 
-  one_worker : (w : ℕ) (x : Worker) → Above d (held_epoch x) → All (λ y. Above d (held_epoch y)) (set s.workers w x)
+  one_worker : (w : ℕ) (x : Worker) → Above d (held_epoch x) → AllByRecursion (λ y. Above d (held_epoch y)) (set s.workers w x)
   one_worker w x a = All-set (λ y. Above d (held_epoch y)) s.workers w x a h.workers
 
-  one_logger : (l : ℕ) (g : Logger) → Above d g.held × Above d g.spilled → All (λ y. Above d y.held × Above d y.spilled) (set s.loggers l g)
+  one_logger : (l : ℕ) (g : Logger) → Above d g.held × Above d g.spilled → AllByRecursion (λ y. Above d y.held × Above d y.spilled) (set s.loggers l g)
   one_logger l g a = All-set (λ y. Above d y.held × Above d y.spilled) s.loggers l g a h.loggers
 
   begins : (w : ℕ) (x : Worker) → Onward s (begin_call s w (begin_rule x))
@@ -305,12 +305,12 @@ module _ (s : State) (h : Pending s) where
       by false false = record { kept = no_less; still = record { current = (let c = h.current in omega arith); workers = h.workers; loggers = h.loggers } }
 
   -- another medium with the same mark
-  same_mark_on : (t : State) (n : ℕ) → t.medium.mark ≡ s.medium.mark → d < t.epoch → All (λ x. Above d (held_epoch x)) t.workers → All (λ g. Above d g.held × Above d g.spilled) t.loggers → Onward s (answered t n)
+  same_mark_on : (t : State) (n : ℕ) → t.medium.mark ≡ s.medium.mark → d < t.epoch → AllByRecursion (λ x. Above d (held_epoch x)) t.workers → AllByRecursion (λ g. Above d g.held × Above d g.spilled) t.loggers → Onward s (answered t n)
   same_mark_on t n e a b c =
       let f : t.medium.mark.epoch ≡ d = ap (λ (k : Mark). k.epoch) e in
       record {
         kept = omega arith;
-        still = record { current = omega arith; workers = subst (λ q. All (λ x. Above q (held_epoch x)) t.workers) (sym f) b; loggers = subst (λ q. All (λ g. Above q g.held × Above q g.spilled) t.loggers) (sym f) c };
+        still = record { current = omega arith; workers = subst (λ q. AllByRecursion (λ x. Above q (held_epoch x)) t.workers) (sym f) b; loggers = subst (λ q. AllByRecursion (λ g. Above q g.held × Above q g.spilled) t.loggers) (sym f) c };
       }
 
   spills_to : (l : ℕ) (g : Logger) (r : Result ℕ Refusal) → Above d g.held × Above d g.spilled → Onward s (spill_call s l (spilled_to l g s.medium r))
@@ -348,7 +348,7 @@ module _ (s : State) (h : Pending s) where
           let p = persistent-pending d s.epoch s.workers s.loggers h.current h.workers h.loggers in
           record {
             kept = omega arith;
-            still = record { current = omega (arith, p.0); workers = subst (λ q. All (λ x. Above q (held_epoch x)) s.workers) (sym f) p.1; loggers = subst (λ q. All (λ g. Above q g.held × Above q g.spilled) s.loggers) (sym f) p.2 };
+            still = record { current = omega (arith, p.0); workers = subst (λ q. AllByRecursion (λ x. Above q (held_epoch x)) s.workers) (sym f) p.1; loggers = subst (λ q. AllByRecursion (λ g. Above q g.held × Above q g.spilled) s.loggers) (sym f) p.2 };
           }
 
   spends : (n : ℕ) (o : Option Refusal) → Onward s (spent s n o)

@@ -9,7 +9,7 @@ use Rattle.rules.specs.declared.call.Call.TheVariants as call
 use Rattle.rules.specs.declared.call.Answer.TheVariants.{No}
 use Rattle.rules.specs.State.{State}
 use Rattle.medium.specs.Sound.{Fresh}
-use Rattle.std.specs.List.{AllByRecursion as All}
+use Rattle.std.specs.List.{AllByRecursion}
 use Rattle.rules.specs.Logging.{held_epoch}
 use Rattle.rules.specs.Calls.{rule, played, history, opened}
 use Rattle.rules.specs.Serial.{Story, story_from}
@@ -49,8 +49,8 @@ Above d (Some n) = d < n
 -- the marked epoch lies before everything that is still under way: the current epoch, what workers hold, what is not yet synced
 pub record Pending (s : State) : Type 0 where
   pub current : s.medium.mark.epoch < s.epoch
-  pub workers : All (λ x. Above s.medium.mark.epoch (held_epoch x)) s.workers
-  pub loggers : All (λ g. Above s.medium.mark.epoch g.held × Above s.medium.mark.epoch g.spilled) s.loggers
+  pub workers : AllByRecursion (λ x. Above s.medium.mark.epoch (held_epoch x)) s.workers
+  pub loggers : AllByRecursion (λ g. Above s.medium.mark.epoch g.held × Above s.medium.mark.epoch g.spilled) s.loggers
 
 -- from a state whose marked epoch lies before all that is under way, as a fresh one's does, the marked epoch never falls
 abbrev pub EpochNeverFalls : Type 0
