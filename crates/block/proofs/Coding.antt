@@ -1,6 +1,6 @@
 -- A command and its bytes give each other back.
 use Rattle.std.proofs.Common.{◌≡◌, ℕ, zero, suc, ◌+◌, ◌^◌, ◌<◌, ◌≤◌, Bool, true, false, cond, eqb, leb, ◌⊎◌, List, [], ◌∷◌, ◌++◌, length, get_or, take, drop, ℤ, pos, negsuc, Some, None, Option, sym, refl, ap, ◌∙◌, subst, inl, inr, ⊎_elim, arith, length-drop, take-add, w64, SFits, to_z, of_z}
-use Rattle.std.specs.List.{AllByRecursion as All}
+use Rattle.std.specs.List.{AllByRecursion}
 use Rattle.std.proofs.lemmas.List.{drop_at, drop_more, drop-drop, length-take-le, take-take}
 use Rattle.std.proofs.lemmas.Int.{to_z-of_z, of_z-to_z}
 use Rattle.std.proofs.lemmas.Bool.{le-leb, leb-true, eqb-true}
@@ -59,7 +59,7 @@ first_back (Gone tid key) rest h =
     ∙ (λ i. Some (Gone (number_back 8 tid h.0 i) (record { kind = key.kind; code = number_back 16 key.code h.1 i })))
 
 -- the bytes of commands are read as these commands
-pub entries_back : (es : List Entry) → All Fields es → entries (content es) ≡ es
+pub entries_back : (es : List Entry) → AllByRecursion Fields es → entries (content es) ≡ es
 entries_back [] h = entries_none [] refl
 entries_back (e ∷ es) h =
     entries_some (bytes_of e ++ content es) e (first_back e (content es) h.0)

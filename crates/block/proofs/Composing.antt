@@ -11,7 +11,7 @@ use Rattle.block.specs.declared.entry.Entry.{Entry}
 use Rattle.block.specs.declared.way.Way.{Way}
 use Rattle.block.specs.declared.writer.WriteError.{WriteError}
 use Rattle.block.specs.declared.writer.WriteError.TheVariants.{Refused, Faulty}
-use Rattle.std.specs.List.{AllByRecursion as All}
+use Rattle.std.specs.List.{AllByRecursion}
 use Rattle.base.specs.Tids.{epoch_of}
 use Rattle.block.specs.declared.entry.Entry.TheVariants.{Txn, Put, Del, Row, Gone}
 use Rattle.block.specs.Checks.{start, onward, entry_fault, first_some, fault, fault_at, wrong_field, wrong_row, epoch_after, walk, step_on}
@@ -104,7 +104,7 @@ fits_none true q h = h
 fits_none false q h = let z : ◌≡◌ {A = ℕ} 0 1 = cc in absurd (omega arith)
 
 -- what can be written has no fault under an epoch that reaches its rows
-pub sound_under : (file number marked : ℕ) (w : Way) (es : List Entry) → unwritable file number w es ≡ None → All (Reached marked) es → is_ok (walk file number marked w es) ≡ true
+pub sound_under : (file number marked : ℕ) (w : Way) (es : List Entry) → unwritable file number w es ≡ None → AllByRecursion (Reached marked) es → is_ok (walk file number marked w es) ≡ true
 unfolding unwritable walk
 sound_under file number marked w [] h r = refl
 sound_under file number marked w (e ∷ es) h r =

@@ -8,7 +8,7 @@ use Rattle.block.specs.declared.writer.WriteError.TheVariants.{Refused}
 use Rattle.block.specs.Drafts.{written}
 use Rattle.block.specs.Format.{bytes_of, content, sealed, size_of}
 use Rattle.block.specs.Laws.{Coded}
-use Rattle.std.specs.List.{AllByRecursion as All}
+use Rattle.std.specs.List.{AllByRecursion}
 use Rattle.std.proofs.ByRecursion.{All-more}
 use Rattle.block.specs.Checks.{start}
 use Rattle.block.specs.Writing.{ReadsAsWritten}
@@ -60,7 +60,7 @@ returns c =
     let all = c.loop-what.invariant.0 ∙ ap content whole in
     let block = c.image.ensures ∙ ap (sealed c.args.file c.args.number) all in
     let through = sym c.loop-what.invariant.3 ∙ none_left c.args.file c.args.number c.loop-what.way (drop i es) (drop_all i es c.loop-what-test.false) in
-    let codes : All Coded es = subst (All Coded) whole c.loop-what.invariant.4 in
+    let codes : AllByRecursion Coded es = subst (AllByRecursion Coded) whole c.loop-what.invariant.4 in
     let room : length (content es) ≤ 502 = omega (arith, ap length all, c.loop-what.invariant.2) in
     record {
       answer = ap (λ x. Ok x) block ∙ written_as c.args.file c.args.number es (omega arith) through;
