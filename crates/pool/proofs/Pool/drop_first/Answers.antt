@@ -39,14 +39,22 @@ module _ (self : Pool) (f : ℕ) (d : Lane) (low : f ≤ 7) (pre : (file_of (mea
 pub bounds-self-self : goal.bounds-self-self
 bounds-self-self c = place c.args.self.now c.args.file c.index-self-f.result c.requires.0 c.requires.1
 
-pub invariant-of-lane : goal.invariant-of-lane
-invariant-of-lane c =
+pub invariant_of-lane : goal.invariant_of-lane
+invariant_of-lane c =
     let l = get_or c.args.self.now.lanes c.args.file c.index-self-f.result in
     let s = some c.args.self.now c.args.file c.index-self-f.result c.requires.0 c.requires.1 in
-    (l.some, (l.few, (l.low, (omega arith, (l.lasting, (omega (arith, l.room), (l.most, tt)))))))
+    record {
+      some = l.some;
+      few = l.few;
+      low = l.low;
+      dropped = omega arith;
+      lasting = l.lasting;
+      room = omega (arith, l.room);
+      most = l.most;
+    }
 
-pub invariant-of-self : goal.invariant-of-self
-invariant-of-self c =
+pub invariant_of-self : goal.invariant_of-self
+invariant_of-self c =
     let self = c.args.self.now in
     let f = c.args.file in
     let d = c.index-self-f.result in
@@ -59,43 +67,22 @@ invariant-of-self c =
     let last : l.first < l.count = omega (arith, l.lasting) in
     let p = place self f d c.requires.0 c.requires.1 in
     let kept = with_file_keeps m f _ low (pool_sound self) (retired_keeps (file_of m f) ((file_of m f).first + 1) (free self f d c.requires.0 c.requires.1) ((pool_sound self).files f low)) in
-    let is = pool_retire self.pages.now self.table.now self.lanes self.mark d self.total self.spare f (get_or self.table.now src 0) ((file_of m f).first + 1) _ self.eight low self.inside refl refl (ap (λ k. k + 1) (sym (starts_at self f d c.requires.0 c.requires.1))) refl refl (omega (arith, starts_at self f d c.requires.0 c.requires.1)) (omega (arith, starts_at self f d c.requires.0 c.requires.1)) in (
-      length-set self.lanes f _ ∙ self.eight,
-      (
-        apart_set self.lanes f d _ lt refl refl self.eight self.apart,
-        (
-          inside_set self.lanes f d _ lt refl refl self.eight _ self.total refl self.inside,
-          (
-            self.few,
-            (
-              self.paged,
-              (
-                omega (arith, length-set self.table.now (self.total + self.spare) (get_or self.table.now src 0), self.tabled),
-                (
-                  freed_counted self.lanes f d _ self.total self.spare lt self.counted (omega arith),
-                  (
-                    freed-distinct self.lanes f d _ self.total self.spare self.table.now lt self.eight self.apart self.inside self.distinct self.ranged src p (record { base = refl; capacity = refl; number = l.first; from = omega arith; to = last; low = omega arith; high = omega arith; out = λ k a b e. omega arith; at = omega (arith, c.slot.ensures) }),
-                    (
-                      freed-ranged self.lanes f d _ self.total self.spare self.table.now lt self.eight self.apart self.inside self.distinct self.ranged src p (record { base = refl; capacity = refl; number = l.first; from = omega arith; to = last; low = omega arith; high = omega arith; out = λ k a b e. omega arith; at = omega (arith, c.slot.ensures) }),
-                      (
-                        long_again _ _ is kept,
-                        (
-                          small_again _ _ is kept,
-                          (
-                            self.starts,
-                            (self.ends, tt),
-                          ),
-                        ),
-                      ),
-                    ),
-                  ),
-                ),
-              ),
-            ),
-          ),
-        ),
-      ),
-    )
+    let is = pool_retire self.pages.now self.table.now self.lanes self.mark d self.total self.spare f (get_or self.table.now src 0) ((file_of m f).first + 1) _ self.eight low self.inside refl refl (ap (λ k. k + 1) (sym (starts_at self f d c.requires.0 c.requires.1))) refl refl (omega (arith, starts_at self f d c.requires.0 c.requires.1)) (omega (arith, starts_at self f d c.requires.0 c.requires.1)) in
+    record {
+      eight = length-set self.lanes f _ ∙ self.eight;
+      apart = apart_set self.lanes f d _ lt refl refl self.eight self.apart;
+      inside = inside_set self.lanes f d _ lt refl refl self.eight _ self.total refl self.inside;
+      few = self.few;
+      paged = self.paged;
+      tabled = omega (arith, length-set self.table.now (self.total + self.spare) (get_or self.table.now src 0), self.tabled);
+      counted = freed_counted self.lanes f d _ self.total self.spare lt self.counted (omega arith);
+      distinct = freed-distinct self.lanes f d _ self.total self.spare self.table.now lt self.eight self.apart self.inside self.distinct self.ranged src p (record { base = refl; capacity = refl; number = l.first; from = omega arith; to = last; low = omega arith; high = omega arith; out = λ k a b e. omega arith; at = omega (arith, c.slot.ensures) });
+      ranged = freed-ranged self.lanes f d _ self.total self.spare self.table.now lt self.eight self.apart self.inside self.distinct self.ranged src p (record { base = refl; capacity = refl; number = l.first; from = omega arith; to = last; low = omega arith; high = omega arith; out = λ k a b e. omega arith; at = omega (arith, c.slot.ensures) });
+      long = long_again _ _ is kept;
+      small = small_again _ _ is kept;
+      starts = self.starts;
+      ends = self.ends;
+    }
 
 pub returns : goal.returns
 returns c =
