@@ -1,9 +1,8 @@
-use Rattle.std.proofs.Common.{◌≡◌, ℕ, ◌+◌, ◌-◌, ◌<◌, ◌≤◌, false, length, get_or, sym, refl, ap, ◌∙◌, inl, inr, arith, length-set, rules}
-use Rattle.medium.specs.Model.{file_of, with_file}
+use Rattle.std.proofs.Common.{◌≡◌, ℕ, ◌+◌, ◌<◌, ◌≤◌, false, length, get_or, sym, refl, ap, ◌∙◌, arith, length-set}
+use Rattle.medium.specs.Model.{file_of}
 use Rattle.lane.specs.declared.lane.Lane.{Lane}
-use Rattle.lane.specs.Lanes.{slot}
-use Rattle.lane.proofs.Kept.{apart_set, inside_set, slot_inside}
-use Rattle.pool.specs.Pages.{page_of, used}
+use Rattle.lane.proofs.Kept.{apart_set, inside_set}
+use Rattle.pool.specs.Pages.{page_of}
 use Rattle.pool.specs.Meaning.{meaning_of}
 use Rattle.pool.proofs.Pools.{pool_sound}
 use Rattle.medium.proofs.Keeps.{with_file_keeps, retired_keeps}
@@ -12,7 +11,7 @@ use Rattle.std.proofs.lemmas.Bool.{or_from, le-ltb}
 use Rattle.medium.specs.Steps.{not_retirable}
 use Rattle.pool.specs.declared.Pool.{Pool}
 use Rattle.pool.proofs.Sums.{spare_place, freed_counted}
-use Rattle.pool.proofs.Owners.{Frees, freed-distinct, freed-ranged}
+use Rattle.pool.proofs.Owners.{freed-distinct, freed-ranged}
 use Rattle.pool.proofs.Pools.{pool_retire}
 use Rattle.pool.proofs.Pool.drop_first.Goals as goal
 

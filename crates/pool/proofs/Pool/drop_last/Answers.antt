@@ -1,16 +1,16 @@
-use Rattle.std.proofs.Common.{◌≡◌, ℕ, ◌+◌, ◌-◌, ◌<◌, ◌≤◌, length, get_or, sym, refl, ap, ◌∙◌, inl, inr, arith, length-set, rules}
-use Rattle.medium.specs.Model.{file_of, count_of, with_file}
+use Rattle.std.proofs.Common.{◌≡◌, ℕ, ◌+◌, ◌-◌, ◌<◌, ◌≤◌, length, get_or, refl, ◌∙◌, arith, length-set}
+use Rattle.medium.specs.Model.{file_of, count_of}
 use Rattle.lane.specs.declared.lane.Lane.{Lane}
-use Rattle.lane.specs.Lanes.{slot, Shows}
-use Rattle.lane.proofs.Kept.{apart_set, inside_set, slot_inside}
-use Rattle.pool.specs.Pages.{page_of, used}
+use Rattle.lane.specs.Lanes.{Shows}
+use Rattle.lane.proofs.Kept.{apart_set, inside_set}
+use Rattle.pool.specs.Pages.{page_of}
 use Rattle.pool.specs.Meaning.{meaning_of}
 use Rattle.pool.proofs.Pools.{pool_sound}
 use Rattle.medium.proofs.Keeps.{with_file_keeps, trimmed_keeps}
 use Rattle.lane.proofs.Calls.{shows, long_again, small_again}
 use Rattle.pool.specs.declared.Pool.{Pool}
 use Rattle.pool.proofs.Sums.{spare_place, freed_counted}
-use Rattle.pool.proofs.Owners.{Frees, freed-distinct, freed-ranged}
+use Rattle.pool.proofs.Owners.{freed-distinct, freed-ranged}
 use Rattle.pool.proofs.Pools.{pool_trim}
 use Rattle.pool.proofs.Pool.drop_last.Goals as goal
 
@@ -34,14 +34,14 @@ module _ (self : Pool) (f : ℕ) (d : Lane) (low : f ≤ 7) (pre : (file_of (mea
   many : l.count - 1 - l.first ≡ length (file_of (meaning_of self) f).kept - 1
   many = let z = some in omega (arith, said.kept, l.dropped)
 
-pub overflow-sub-lane : goal.overflow-sub-lane
-overflow-sub-lane c = let z = some c.args.self.now c.args.file c.index-self-f.result c.requires.0 c.requires.1 in omega arith
+pub overflow_sub-lane : goal.overflow_sub-lane
+overflow_sub-lane c = let z = some c.args.self.now c.args.file c.index-self-f.result c.requires.0 c.requires.1 in omega arith
 
 pub bounds-self-self : goal.bounds-self-self
 bounds-self-self c = place c.args.self.now c.args.file c.index-self-f.result c.requires.0 c.requires.1
 
-pub overflow-sub-lane-2 : goal.overflow-sub-lane-2
-overflow-sub-lane-2 c = let z = some c.args.self.now c.args.file c.index-self-f.result c.requires.0 c.requires.1 in omega arith
+pub overflow_sub-lane-2 : goal.overflow_sub-lane-2
+overflow_sub-lane-2 c = let z = some c.args.self.now c.args.file c.index-self-f.result c.requires.0 c.requires.1 in omega arith
 
 pub invariant_of-lane : goal.invariant_of-lane
 invariant_of-lane c =

@@ -1,9 +1,9 @@
-use Rattle.std.proofs.Common.{◌≡◌, ℕ, ◌+◌, ◌-◌, ◌<◌, ◌≤◌, false, length, get_or, sym, refl, ap, ◌∙◌, inl, inr, arith, length-set, rules}
-use Rattle.medium.specs.Model.{file_of, with_file}
+use Rattle.std.proofs.Common.{◌≡◌, ℕ, ◌+◌, ◌-◌, ◌<◌, ◌≤◌, false, length, get_or, sym, refl, ◌∙◌, inr, arith, length-set}
+use Rattle.medium.specs.Model.{file_of}
 use Rattle.lane.specs.declared.lane.Lane.{Lane}
 use Rattle.lane.specs.Lanes.{slot}
 use Rattle.lane.proofs.Kept.{apart_set, inside_set, slot_inside}
-use Rattle.pool.specs.Pages.{page_of, used}
+use Rattle.pool.specs.Pages.{page_of}
 use Rattle.pool.specs.Meaning.{meaning_of}
 use Rattle.pool.proofs.Pools.{pool_sound}
 use Rattle.medium.specs.Sound.{Block}
@@ -12,7 +12,7 @@ use Rattle.lane.proofs.Calls.{room_of, shows, long_again, small_again}
 use Rattle.medium.specs.Steps.{is_full}
 use Rattle.pool.specs.declared.Pool.{Pool}
 use Rattle.pool.proofs.Sums.{some_spare, grown_counted}
-use Rattle.pool.proofs.Owners.{Grows, grown-distinct, grown-ranged}
+use Rattle.pool.proofs.Owners.{grown-distinct, grown-ranged}
 use Rattle.pool.proofs.Pools.{spare_write, pool_append}
 use Rattle.pool.proofs.Pool.put.Goals as goal
 
@@ -60,8 +60,8 @@ invariant_of-self c =
       ends = self.ends;
     }
 
-pub overflow-sub-self : goal.overflow-sub-self
-overflow-sub-self c = some c.args.self.now c.args.file c.index-self-f.result c.requires.0 c.requires.1
+pub overflow_sub-self : goal.overflow_sub-self
+overflow_sub-self c = some c.args.self.now c.args.file c.index-self-f.result c.requires.0 c.requires.1
 
 pub invariant_of-lane : goal.invariant_of-lane
 invariant_of-lane c =

@@ -1,9 +1,7 @@
-use Rattle.std.proofs.Common.{◌≡◌, ℕ, ◌+◌, ◌-◌, ◌<◌, ◌≤◌, length, get_or, sym, refl, ap, ◌∙◌, inl, inr, arith, length-set, rules}
-use Rattle.medium.specs.Model.{file_of, with_file}
-use Rattle.lane.specs.declared.lane.Lane.{Lane}
-use Rattle.lane.specs.Lanes.{slot}
-use Rattle.lane.proofs.Kept.{apart_set, inside_set, slot_inside}
-use Rattle.pool.specs.Pages.{page_of, used}
+use Rattle.std.proofs.Common.{◌<◌, length, sym, refl, ◌∙◌, arith, length-set}
+use Rattle.medium.specs.Model.{file_of}
+use Rattle.lane.proofs.Kept.{apart_set, inside_set}
+use Rattle.pool.specs.Pages.{page_of}
 use Rattle.pool.specs.Meaning.{meaning_of}
 use Rattle.pool.proofs.Pools.{pool_sound}
 use Rattle.medium.proofs.Keeps.{with_file_keeps, synced_keeps}

@@ -1,4 +1,4 @@
-use Rattle.std.proofs.Common.{◌≡◌, length, sym, refl, ap, ◌∙◌, subst, arith}
+use Rattle.std.proofs.Common.{length, sym, ap, subst}
 use Rattle.medium.specs.declared.mark.Mark.{Mark}
 use Rattle.medium.specs.Sound.{Fresh}
 use Rattle.lane.proofs.Fresh.{fresh_model, fresh_is, fresh_long, fresh_small}
