@@ -17,8 +17,8 @@ pub struct Round {
 
 // Appends a block, syncs, adds the file up, and retires the blocks below a number.
 pub fn play_round<M: Medium>(m: &mut M, file: u8, block: &[u8; 512], number: u32) -> Round
-    ensures answer { result ≡ round_answer (meaning m.old) file block.now number }
-    ensures after { meaning m.new ≡ round_after (meaning m.old) file block.now number }
+    ensures answer { result ≡ round_answer (M.meaning m.old) file block.now number }
+    ensures after { M.meaning m.new ≡ round_after (M.meaning m.old) file block.now number }
 {
     let appended = m.append(file, block);
     let synced = m.sync(file);

@@ -7,7 +7,7 @@ use medium::media::Medium;
 
 // The first bytes of all kept blocks of a file, added up.
 pub fn tally<M: Medium>(m: &M, file: u8) -> Result<u32, Refusal>
-    ensures { result ≡ tally_answer (meaning m.now) file }
+    ensures { result ≡ tally_answer (M.meaning m.now) file }
 {
     let first = m.first(file)?;
     let count = m.count(file)?;

@@ -1,5 +1,5 @@
 -- A file changed twice, and a file retired step by step.
-use Rattle.std.proofs.Common.{◌≡◌, ℕ, ◌+◌, ◌-◌, ◌<◌, ◌≤◌, false, ltb, List, length, get_or, drop, set, sym, refl, ap, ◌∙◌, subst, arith, get_or-set_same}
+use Rattle.std.proofs.Common.{◌≡◌, ℕ, ◌+◌, ◌-◌, ◌<◌, ◌≤◌, false, ltb, length, drop, sym, ap, ◌∙◌, arith, get_or-set_same}
 use Rattle.std.proofs.lemmas.List.{set-set, set-get_or, drop-drop}
 use Rattle.std.proofs.lemmas.Bool.{or_parts, ltb-false}
 use Rattle.medium.specs.Model.{FileModel, MediumModel, file_of, with_file, no_file}

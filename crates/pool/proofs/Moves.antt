@@ -1,5 +1,5 @@
 -- One entry of a table moves from one place to another.
-use Rattle.std.proofs.Common.{◌≡◌, ℕ, ◌<◌, ◌≢◌, ◌⊎◌, List, length, get_or, set, sym, refl, ap, ◌∙◌, ⊎_elim, arith, get_or-set_other, get_or-set_same}
+use Rattle.std.proofs.Common.{◌≡◌, ℕ, ◌<◌, ◌≢◌, ◌⊎◌, List, length, get_or, set, sym, ap, ◌∙◌, ⊎_elim, arith, get_or-set_other, get_or-set_same}
 
 module _ (table : List ℕ) (src dst : ℕ) (within : dst < length table) (Old New : ℕ → Type 0) (source : Old src) (sorts : (s : ℕ) → New s → (s ≡ dst) ⊎ (Old s × (s ≢ dst) × (s ≢ src))) where
   at_dst : (s : ℕ) → s ≡ dst → get_or (set table dst (get_or table src 0)) s 0 ≡ get_or table src 0

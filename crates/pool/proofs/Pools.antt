@@ -1,5 +1,5 @@
 -- What a pool keeps true, and what its steps leave.
-use Rattle.std.proofs.Common.{◌≡◌, ℕ, ◌+◌, ◌-◌, ◌<◌, ◌≤◌, ◌≢◌, List, [], length, get_or, set, sym, refl, ap, ◌∙◌, subst, inl, inr, arith, length-set, get_or-set_other, get_or-set_same}
+use Rattle.std.proofs.Common.{◌≡◌, ℕ, ◌+◌, ◌-◌, ◌<◌, ◌≤◌, ◌≢◌, List, [], length, get_or, set, sym, refl, ap, ◌∙◌, inl, inr, arith, length-set, get_or-set_other, get_or-set_same}
 use Rattle.medium.specs.declared.mark.Mark.{Mark}
 use Rattle.medium.specs.Model.{file_of, with_file}
 use Rattle.medium.specs.Cuts.{trimmed}
@@ -10,9 +10,9 @@ use Rattle.lane.specs.Lanes.{slot, Apart, Inside}
 use Rattle.lane.proofs.Calls.{lanes_sound}
 use Rattle.lane.proofs.Kept.{append_model, retire_model, trim_model, fresh_slot, slot_inside, inside_set, same_model, slots_model}
 use Rattle.pool.specs.declared.Pool.{Pool}
-use Rattle.pool.specs.Pages.{page_of, pool_model, Kept, Owns, Distinct, Ranged}
+use Rattle.pool.specs.Pages.{page_of, pool_model, Kept, Distinct}
 use Rattle.pool.specs.Meaning.{meaning_of}
-use Rattle.pool.proofs.Owners.{kept_inside, Grows}
+use Rattle.pool.proofs.Owners.{Grows}
 
 pub pool_sound : (p : Pool) → Sound (meaning_of p)
 pool_sound p = lanes_sound (page_of p.pages.now p.table.now) p.lanes p.mark p.eight p.long p.small p.starts p.ends

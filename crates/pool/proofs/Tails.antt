@@ -1,5 +1,5 @@
 -- A file that loses its last blocks one by one, and one that gets blocks one by one.
-use Rattle.std.proofs.Common.{◌≡◌, ℕ, ◌+◌, ◌-◌, ◌<◌, ◌≤◌, false, List, [], ◌∷◌, ◌++◌, length, get_or, take, drop, set, sym, refl, ap, ◌∙◌, subst, append_assoc, arith}
+use Rattle.std.proofs.Common.{◌≡◌, ℕ, ◌+◌, ◌-◌, ◌<◌, ◌≤◌, false, List, [], ◌∷◌, ◌++◌, length, get_or, take, sym, ap, ◌∙◌, append_assoc, arith}
 use Rattle.std.proofs.lemmas.List.{take_all, take-take, take_more, length-take-le, length-append, append-nil}
 use Rattle.std.proofs.lemmas.Bool.{or_from, ne_eqb}
 use Rattle.medium.specs.Model.{FileModel, MediumModel, file_of, count_of, with_file}

@@ -1,5 +1,5 @@
 -- Pages by number: a table says which page stands in each slot, and behind the slots which pages are free.
-use Rattle.std.specs.Prelude.{◌≡◌, ℕ, ◌+◌, ◌-◌, ◌<◌, ◌≤◌, ◌≢◌, ◌⊎◌, List, [], ◌∷◌, get_or, slice_index, slice_index_or}
+use Rattle.std.specs.Prelude.{◌≡◌, ℕ, ◌+◌, ◌-◌, ◌<◌, ◌≤◌, ◌≢◌, ◌⊎◌, List, [], ◌∷◌, slice_index, slice_index_or}
 use Rattle.medium.specs.declared.mark.Mark.{Mark}
 use Rattle.medium.specs.Model.{MediumModel}
 use Rattle.lane.specs.declared.lane.Lane.{Lane}
@@ -22,8 +22,8 @@ pub record Kept (ls : List Lane) (d : Lane) (s : ℕ) : Type 0 where
   pub file : ℕ
   pub number : ℕ
   pub low : file < 8
-  pub from : (get_or ls file d).first ≤ number
-  pub to : number < (get_or ls file d).count
+  pub from : (slice_index_or ls file d).first ≤ number
+  pub to : number < (slice_index_or ls file d).count
   pub at : s ≡ slot (slice_index_or ls file d) number
 
 -- a place of the table that owns a page: such a slot, or a place of the free ones

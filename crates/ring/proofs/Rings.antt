@@ -1,5 +1,5 @@
 -- What a ring keeps true, and what its append leaves.
-use Rattle.std.proofs.Common.{◌≡◌, ℕ, ◌+◌, ◌<◌, ◌≤◌, List, [], length, get_or, set, sym, refl, ap, ◌∙◌, subst, arith, get_or-set_other, get_or-set_same}
+use Rattle.std.proofs.Common.{◌≡◌, ℕ, ◌+◌, ◌<◌, List, [], length, get_or, set, ap, ◌∙◌, arith, get_or-set_other, get_or-set_same}
 use Rattle.medium.specs.declared.mark.Mark.{Mark}
 use Rattle.medium.specs.Model.{file_of, with_file}
 use Rattle.medium.specs.Steps.{longer}

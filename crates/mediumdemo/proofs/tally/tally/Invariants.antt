@@ -1,5 +1,5 @@
-use Rattle.std.proofs.Common.{◌≡◌, ◌+◌, ◌-◌, ◌*◌, ◌≤◌, false, ltb, length, drop}
-use Rattle.medium.specs.Model.{file_of, count_of}
+use Rattle.std.proofs.Common.{◌≡◌, ◌+◌, ◌-◌, ◌*◌, ◌≤◌, length, drop}
+use Rattle.medium.specs.Model.{file_of}
 use Rattle.mediumdemo.specs.Tally.{total}
 use Rattle.mediumdemo.proofs.tally.tally.Given as goal
 

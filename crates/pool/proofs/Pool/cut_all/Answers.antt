@@ -1,5 +1,5 @@
-use Rattle.std.proofs.Common.{◌≡◌, ℕ, ◌+◌, ◌*◌, ◌<◌, ◌≤◌, length, get_or, sym, refl, ap, ◌∙◌, subst, arith, rules}
-use Rattle.medium.specs.Model.{MediumModel, file_of, with_file}
+use Rattle.std.proofs.Common.{◌≡◌, ◌+◌, ◌<◌, length, get_or, sym, refl, ap, ◌∙◌, subst, arith, rules}
+use Rattle.medium.specs.Model.{MediumModel}
 use Rattle.medium.specs.Sound.{Sound}
 use Rattle.medium.specs.Cuts.{Cut, cut_after}
 use Rattle.medium.proofs.Cutting.{cut_allowed}
@@ -8,8 +8,8 @@ use Rattle.pool.proofs.Pools.{pool_sound}
 use Rattle.pool.proofs.Cutting.{so_far, cut_next, all_cut}
 use Rattle.pool.proofs.Pool.cut_all.Goals as goal
 
-pub overflow-add-start : goal.overflow-add-start
-overflow-add-start c =
+pub overflow_add-start : goal.overflow_add-start
+overflow_add-start c =
     let a = c.fits-shown c.loop-file.file in
     let b = c.loop-file.invariant.0 in
     let d = c.loop-file-test.true in

@@ -1,4 +1,4 @@
-use Rattle.std.proofs.Common.{◌≡◌, ◌*◌, ◌≤◌, length}
+use Rattle.std.proofs.Common.{◌≡◌, ◌*◌, ◌≤◌}
 use Rattle.medium.specs.Cuts.{cut_files}
 use Rattle.pool.specs.Meaning.{meaning_of}
 use Rattle.pool.proofs.Cutting.{so_far}

@@ -1,16 +1,16 @@
-use Rattle.std.proofs.Common.{◌≡◌, ℕ, ◌+◌, ◌-◌, ◌<◌, ◌≤◌, length, get_or, sym, refl, ap, ◌∙◌, inl, inr, arith, length-set, rules}
-use Rattle.medium.specs.Model.{file_of, count_of, with_file}
+use Rattle.std.proofs.Common.{◌≡◌, ℕ, ◌+◌, ◌-◌, ◌<◌, ◌≤◌, length, get_or, refl, ◌∙◌, arith, length-set}
+use Rattle.medium.specs.Model.{file_of, count_of}
 use Rattle.lane.specs.declared.lane.Lane.{Lane}
-use Rattle.lane.specs.Lanes.{slot, Shows}
-use Rattle.lane.proofs.Kept.{apart_set, inside_set, slot_inside}
-use Rattle.pool.specs.Pages.{page_of, used}
+use Rattle.lane.specs.Lanes.{Shows}
+use Rattle.lane.proofs.Kept.{apart_set, inside_set}
+use Rattle.pool.specs.Pages.{page_of}
 use Rattle.pool.specs.Meaning.{meaning_of}
 use Rattle.pool.proofs.Pools.{pool_sound}
 use Rattle.medium.proofs.Keeps.{with_file_keeps, trimmed_keeps}
 use Rattle.lane.proofs.Calls.{shows, long_again, small_again}
 use Rattle.pool.specs.declared.Pool.{Pool}
 use Rattle.pool.proofs.Sums.{spare_place, freed_counted}
-use Rattle.pool.proofs.Owners.{Frees, freed-distinct, freed-ranged}
+use Rattle.pool.proofs.Owners.{freed-distinct, freed-ranged}
 use Rattle.pool.proofs.Pools.{pool_trim}
 use Rattle.pool.proofs.Pool.drop_last.Goals as goal
 
@@ -34,23 +34,31 @@ module _ (self : Pool) (f : ℕ) (d : Lane) (low : f ≤ 7) (pre : (file_of (mea
   many : l.count - 1 - l.first ≡ length (file_of (meaning_of self) f).kept - 1
   many = let z = some in omega (arith, said.kept, l.dropped)
 
-pub overflow-sub-lane : goal.overflow-sub-lane
-overflow-sub-lane c = let z = some c.args.self.now c.args.file c.index-self-f.result c.requires.0 c.requires.1 in omega arith
+pub overflow_sub-lane : goal.overflow_sub-lane
+overflow_sub-lane c = let z = some c.args.self.now c.args.file c.index-self-f.result c.requires.0 c.requires.1 in omega arith
 
 pub bounds-self-self : goal.bounds-self-self
 bounds-self-self c = place c.args.self.now c.args.file c.index-self-f.result c.requires.0 c.requires.1
 
-pub overflow-sub-lane-2 : goal.overflow-sub-lane-2
-overflow-sub-lane-2 c = let z = some c.args.self.now c.args.file c.index-self-f.result c.requires.0 c.requires.1 in omega arith
+pub overflow_sub-lane-2 : goal.overflow_sub-lane-2
+overflow_sub-lane-2 c = let z = some c.args.self.now c.args.file c.index-self-f.result c.requires.0 c.requires.1 in omega arith
 
-pub invariant-of-lane : goal.invariant-of-lane
-invariant-of-lane c =
+pub invariant_of-lane : goal.invariant_of-lane
+invariant_of-lane c =
     let l = get_or c.args.self.now.lanes c.args.file c.index-self-f.result in
     let s = some c.args.self.now c.args.file c.index-self-f.result c.requires.0 c.requires.1 in
-    (l.some, (l.few, (l.low, (l.dropped, (omega arith, (omega (arith, l.room), (omega (arith, l.most), tt)))))))
+    record {
+      some = l.some;
+      few = l.few;
+      low = l.low;
+      dropped = l.dropped;
+      lasting = omega arith;
+      room = omega (arith, l.room);
+      most = omega (arith, l.most);
+    }
 
-pub invariant-of-self : goal.invariant-of-self
-invariant-of-self c =
+pub invariant_of-self : goal.invariant_of-self
+invariant_of-self c =
     let self = c.args.self.now in
     let f = c.args.file in
     let d = c.index-self-f.result in
@@ -64,43 +72,22 @@ invariant-of-self c =
     let x = said self f d c.requires.0 c.requires.1 in
     let n = length (file_of m f).kept - 1 in
     let kept = with_file_keeps m f _ low (pool_sound self) (trimmed_keeps (file_of m f) n (omega arith) (omega (arith, x.kept, x.first, x.synced, l.dropped)) ((pool_sound self).files f low)) in
-    let is = pool_trim self.pages.now self.table.now self.lanes self.mark d self.total self.spare f (get_or self.table.now src 0) n _ self.eight low self.inside refl refl refl (omega arith) refl (many self f d c.requires.0 c.requires.1) in (
-      length-set self.lanes f _ ∙ self.eight,
-      (
-        apart_set self.lanes f d _ lt refl refl self.eight self.apart,
-        (
-          inside_set self.lanes f d _ lt refl refl self.eight _ self.total refl self.inside,
-          (
-            self.few,
-            (
-              self.paged,
-              (
-                omega (arith, length-set self.table.now (self.total + self.spare) (get_or self.table.now src 0), self.tabled),
-                (
-                  freed_counted self.lanes f d _ self.total self.spare lt self.counted (omega (arith, l.dropped)),
-                  (
-                    freed-distinct self.lanes f d _ self.total self.spare self.table.now lt self.eight self.apart self.inside self.distinct self.ranged src p (record { base = refl; capacity = refl; number = l.count - 1; from = omega (arith, l.dropped); to = omega arith; low = omega arith; high = omega arith; out = λ k a b e. omega arith; at = omega (arith, c.slot.ensures) }),
-                    (
-                      freed-ranged self.lanes f d _ self.total self.spare self.table.now lt self.eight self.apart self.inside self.distinct self.ranged src p (record { base = refl; capacity = refl; number = l.count - 1; from = omega (arith, l.dropped); to = omega arith; low = omega arith; high = omega arith; out = λ k a b e. omega arith; at = omega (arith, c.slot.ensures) }),
-                      (
-                        long_again _ _ is kept,
-                        (
-                          small_again _ _ is kept,
-                          (
-                            self.starts,
-                            (self.ends, tt),
-                          ),
-                        ),
-                      ),
-                    ),
-                  ),
-                ),
-              ),
-            ),
-          ),
-        ),
-      ),
-    )
+    let is = pool_trim self.pages.now self.table.now self.lanes self.mark d self.total self.spare f (get_or self.table.now src 0) n _ self.eight low self.inside refl refl refl (omega arith) refl (many self f d c.requires.0 c.requires.1) in
+    record {
+      eight = length-set self.lanes f _ ∙ self.eight;
+      apart = apart_set self.lanes f d _ lt refl refl self.eight self.apart;
+      inside = inside_set self.lanes f d _ lt refl refl self.eight _ self.total refl self.inside;
+      few = self.few;
+      paged = self.paged;
+      tabled = omega (arith, length-set self.table.now (self.total + self.spare) (get_or self.table.now src 0), self.tabled);
+      counted = freed_counted self.lanes f d _ self.total self.spare lt self.counted (omega (arith, l.dropped));
+      distinct = freed-distinct self.lanes f d _ self.total self.spare self.table.now lt self.eight self.apart self.inside self.distinct self.ranged src p (record { base = refl; capacity = refl; number = l.count - 1; from = omega (arith, l.dropped); to = omega arith; low = omega arith; high = omega arith; out = λ k a b e. omega arith; at = omega (arith, c.slot.ensures) });
+      ranged = freed-ranged self.lanes f d _ self.total self.spare self.table.now lt self.eight self.apart self.inside self.distinct self.ranged src p (record { base = refl; capacity = refl; number = l.count - 1; from = omega (arith, l.dropped); to = omega arith; low = omega arith; high = omega arith; out = λ k a b e. omega arith; at = omega (arith, c.slot.ensures) });
+      long = long_again _ _ is kept;
+      small = small_again _ _ is kept;
+      starts = self.starts;
+      ends = self.ends;
+    }
 
 pub returns : goal.returns
 returns c =

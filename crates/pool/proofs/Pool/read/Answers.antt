@@ -1,11 +1,5 @@
-use Rattle.std.proofs.Common.{◌≡◌, ℕ, ◌+◌, ◌-◌, ◌<◌, ◌≤◌, length, get_or, sym, refl, ap, ◌∙◌, inl, inr, arith, length-set, rules}
-use Rattle.medium.specs.Model.{file_of, with_file}
-use Rattle.lane.specs.declared.lane.Lane.{Lane}
-use Rattle.lane.specs.Lanes.{slot}
-use Rattle.lane.proofs.Kept.{apart_set, inside_set, slot_inside}
+use Rattle.std.proofs.Common.{◌<◌, length, ap, ◌∙◌, inl, arith}
 use Rattle.pool.specs.Pages.{page_of, Kept}
-use Rattle.pool.specs.Meaning.{meaning_of}
-use Rattle.pool.proofs.Pools.{pool_sound}
 use Rattle.lane.proofs.Calls.{found_of, found_block}
 use Rattle.pool.proofs.Pool.read.Goals as goal
 

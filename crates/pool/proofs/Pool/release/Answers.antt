@@ -1,5 +1,5 @@
-use Rattle.std.proofs.Common.{◌≡◌, ℕ, ◌+◌, ◌-◌, ◌<◌, ◌≤◌, length, sym, refl, ap, ◌∙◌, arith}
-use Rattle.medium.specs.Model.{file_of, with_file}
+use Rattle.std.proofs.Common.{◌<◌, length, arith}
+use Rattle.medium.specs.Model.{file_of}
 use Rattle.pool.specs.Meaning.{meaning_of}
 use Rattle.pool.proofs.Pools.{pool_sound}
 use Rattle.pool.proofs.Files.{none_retired, same_synced, next_first, one-retired, retirable}
@@ -11,8 +11,8 @@ loop-self-init c =
     let r = retirable (file_of m c.args.file) c.args.number c.requires.1 in
     (none_retired m c.args.file, omega arith, r.0)
 
-pub drop-first-requires : goal.drop-first-requires
-drop-first-requires c =
+pub drop_first-requires : goal.drop_first-requires
+drop_first-requires c =
     let m = meaning_of c.args.self.now in
     let n = meaning_of c.loop-self.self in
     let f = c.args.file in
@@ -25,19 +25,19 @@ pub loop-self-smaller : goal.loop-self-smaller
 loop-self-smaller c =
     let m = meaning_of c.args.self.now in
     let n = meaning_of c.loop-self.self in
-    let o = meaning_of c.drop-first.new.self in
+    let o = meaning_of c.drop_first.new.self in
     let f = c.args.file in
     let inv = c.loop-self.invariant in
     let lt : f < length m.files = omega (arith, (pool_sound c.args.self.now).eight, c.requires.0) in
-    omega (arith, next_first m n o f lt inv.0 c.drop-first.ensures inv.1, c.lane.ensures.first, c.loop-self-test.true)
+    omega (arith, next_first m n o f lt inv.0 c.drop_first.ensures inv.1, c.lane.ensures.first, c.loop-self-test.true)
 
 pub loop-self-preserved : goal.loop-self-preserved
 loop-self-preserved c =
     let m = meaning_of c.args.self.now in
     let n = meaning_of c.loop-self.self in
-    let o = meaning_of c.drop-first.new.self in
+    let o = meaning_of c.drop_first.new.self in
     let f = c.args.file in
     let inv = c.loop-self.invariant in
     let lt : f < length m.files = omega (arith, (pool_sound c.args.self.now).eight, c.requires.0) in
-    let next = next_first m n o f lt inv.0 c.drop-first.ensures inv.1 in
-    (one-retired m n o f lt inv.0 c.drop-first.ensures inv.1, omega (arith, next, inv.1), omega (arith, next, c.lane.ensures.first, c.loop-self-test.true))
+    let next = next_first m n o f lt inv.0 c.drop_first.ensures inv.1 in
+    (one-retired m n o f lt inv.0 c.drop_first.ensures inv.1, omega (arith, next, inv.1), omega (arith, next, c.lane.ensures.first, c.loop-self-test.true))

@@ -1,4 +1,4 @@
-use Rattle.std.proofs.Common.{◌≡◌, ℕ, ◌+◌, ◌-◌, ◌<◌, ◌≤◌, length, sym, refl, ap, ◌∙◌, arith}
+use Rattle.std.proofs.Common.{◌≡◌, ◌-◌, ◌<◌, length, ap, ◌∙◌, arith}
 use Rattle.medium.specs.Model.{file_of, with_file}
 use Rattle.medium.specs.Cuts.{trimmed}
 use Rattle.pool.specs.Meaning.{meaning_of}
@@ -9,8 +9,8 @@ use Rattle.pool.proofs.Pool.truncate.Goals as goal
 pub loop-i-init : goal.loop-i-init
 loop-i-init c = none_trimmed (meaning_of c.args.self.now) c.args.file
 
-pub drop-last-requires : goal.drop-last-requires
-drop-last-requires c =
+pub drop_last-requires : goal.drop_last-requires
+drop_last-requires c =
     let m = meaning_of c.args.self.now in
     let n = meaning_of c.loop-i.self in
     let f = c.args.file in
@@ -23,7 +23,7 @@ loop-i-preserved c =
     let m = meaning_of c.args.self.now in
     let f = c.args.file in
     let lt : f < length m.files = omega (arith, (pool_sound c.args.self.now).eight, c.requires) in
-    one_trimmed m (meaning_of c.loop-i.self) f c.loop-i.i lt c.loop-i.invariant (meaning_of c.drop-last.new.self) c.drop-last.ensures
+    one_trimmed m (meaning_of c.loop-i.self) f c.loop-i.i lt c.loop-i.invariant (meaning_of c.drop_last.new.self) c.drop_last.ensures
 
 pub returns : goal.returns
 returns c =

@@ -5,5 +5,5 @@ use Rattle.pool.specs.Meaning.{meaning_of}
 use Rattle.pool.proofs.Pool.truncate.Given as goal
 
 -- so far as many blocks are gone
-abbrev pub invariant_loop_i : goal.invariant_loop_i
-invariant_loop_i l = meaning_of l.self ≡ with_file (meaning_of l.initial.self) l.file (trimmed (file_of (meaning_of l.initial.self) l.file) (length (file_of (meaning_of l.initial.self) l.file).kept - l.i))
+abbrev pub invariant-loop-i : goal.invariant-loop-i
+invariant-loop-i l = meaning_of l.self ≡ with_file (meaning_of l.initial.self) l.file (trimmed (file_of (meaning_of l.initial.self) l.file) (length (file_of (meaning_of l.initial.self) l.file).kept - l.i))

@@ -1,5 +1,5 @@
-use Rattle.std.proofs.Common.{◌≡◌, ◌+◌, ◌<◌, ◌≤◌, length, get_or, sym, refl, ap, ◌∙◌, arith, length-set, rules}
-use Rattle.medium.specs.Model.{file_of, with_file}
+use Rattle.std.proofs.Common.{◌<◌, length, sym, refl, ◌∙◌, arith, length-set}
+use Rattle.medium.specs.Model.{file_of}
 use Rattle.medium.proofs.Keeps.{with_file_keeps, synced_keeps}
 use Rattle.lane.proofs.Kept.{apart_set, inside_set, sync_model}
 use Rattle.lane.proofs.Calls.{shows, long_again, small_again}
@@ -8,8 +8,8 @@ use Rattle.ring.specs.Meaning.{meaning_of}
 use Rattle.ring.proofs.Rings.{ring_sound}
 use Rattle.ring.proofs.Ring.settle.Goals as goal
 
-pub invariant-of-self : goal.invariant-of-self
-invariant-of-self c =
+pub invariant_of-self : goal.invariant_of-self
+invariant_of-self c =
     let self = c.args.self.now in
     let f = c.args.file in
     let d = c.index-self-f.result in
@@ -17,25 +17,16 @@ invariant-of-self c =
     let lt : f < length self.lanes = omega (arith, self.eight) in
     let low : f < 8 = omega (arith, c.requires) in
     let kept = with_file_keeps m f _ low (ring_sound self) (synced_keeps (file_of m f) ((ring_sound self).files f low)) in
-    let is = sync_model (cell_of self.cells.now) self.lanes self.mark f d _ lt refl refl refl refl refl in (
-      length-set self.lanes f _ ∙ self.eight,
-      (
-        apart_set self.lanes f d _ lt refl refl self.eight self.apart,
-        (
-          inside_set self.lanes f d _ lt refl refl self.eight _ (length self.cells.now) refl self.inside,
-          (
-            long_again _ _ is kept,
-            (
-              small_again _ _ is kept,
-              (
-                self.starts,
-                (self.ends, tt),
-              ),
-            ),
-          ),
-        ),
-      ),
-    )
+    let is = sync_model (cell_of self.cells.now) self.lanes self.mark f d _ lt refl refl refl refl refl in
+    record {
+      eight = length-set self.lanes f _ ∙ self.eight;
+      apart = apart_set self.lanes f d _ lt refl refl self.eight self.apart;
+      inside = inside_set self.lanes f d _ lt refl refl self.eight _ (length self.cells.now) refl self.inside;
+      long = long_again _ _ is kept;
+      small = small_again _ _ is kept;
+      starts = self.starts;
+      ends = self.ends;
+    }
 
 pub returns : goal.returns
 returns c =
