@@ -1,13 +1,13 @@
 #!/usr/bin/env bash
 # Whole files of 4,096 blocks appended, synced, fetched and retired: the proved media, and the same in plain Rust, one after the other.
-# Needs target/bin/mediumbench (rt check mediumbench) and rustc. Usage: bench/media.sh [COUNT]
+# Needs crates/mediumbench/out/mediumbench (rt run in crates/mediumbench) and rustc. Usage: bench/media.sh [COUNT]
 set -eu
 cd "$(dirname "$0")/.."
 count=${1:-1000}
 work=$(mktemp -d)
 trap 'rm -r "$work"' EXIT
 rustc -O --edition 2024 -o "$work/rust" bench/media.rs
-proved=target/bin/mediumbench
+proved=crates/mediumbench/out/mediumbench
 seconds() {
     local from to
     from=$(date +%s%N)

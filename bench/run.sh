@@ -1,13 +1,13 @@
 #!/usr/bin/env bash
 # Blocks per second, of the proved codec and of the same codec in plain Rust, one after the other on the same input.
-# Needs target/bin/blockbench (rt check blockbench) and rustc. Usage: bench/run.sh [COUNT]
+# Needs crates/blockbench/out/blockbench (rt run in crates/blockbench) and rustc. Usage: bench/run.sh [COUNT]
 set -eu
 cd "$(dirname "$0")/.."
 count=${1:-2000000}
 work=$(mktemp -d)
 trap 'rm -r "$work"' EXIT
 rustc -O --edition 2024 -o "$work/rust" bench/rust.rs
-proved=target/bin/blockbench
+proved=crates/blockbench/out/blockbench
 for what in write read bytes; do
     echo "$what 100000" >"$work/in"
     "$proved" <"$work/in" >"$work/a"
