@@ -3,7 +3,7 @@ ghost use Rattle.std.specs.Prelude.{◌≡◌, nat_eq};
 ghost use Rattle.base.specs.Refusals.{number_of};
 ghost use Rattle.std.specs.Cmp.Rules.{comparing};
 ghost use Rattle.std.proofs.Common.{rules};
-ghost use Rattle.std.specs.Cmp as Keys;
+ghost use Rattle.std.specs.Cmp.{partial_equiv_from_equiv};
 ghost use Rattle.std.specs.Ordering.{on};
 
 // The discriminant of a case is the number that stands for it outside.
@@ -58,7 +58,7 @@ impl Refusal {
 impl PartialEq for Refusal {
     ghost eq = { on number_of nat_eq };
 
-    ghost laws = { Keys.partial_equiv_from_equiv (Prim.search (comparing, rules)) };
+    ghost laws = { partial_equiv_from_equiv (Prim.search (comparing, rules)) };
 
     fn eq(&self, other: &Refusal) -> bool {
         self.number() == other.number()

@@ -26,27 +26,40 @@ const GROUP: Key = Key {
 
 const WRONG_KIND: Key = Key { kind: 4, code: 7 };
 
+fn txn(tid: u64) -> Entry {
+    Entry::Txn { tid }
+}
+
+fn put(key: Key, value: i64) -> Entry {
+    Entry::Put { key, value }
+}
+
+fn del(key: Key) -> Entry {
+    Entry::Del { key }
+}
+
+fn row(tid: u64, key: Key, value: i64) -> Entry {
+    Entry::Row { tid, key, value }
+}
+
+fn gone(tid: u64, key: Key) -> Entry {
+    Entry::Gone { tid, key }
+}
+
 // A number of transactions, then of writes and erases.
 fn log_entries(heap: Global, txns: u8, puts: u8, dels: u8) -> Result<Vec<Entry>, AllocError> {
     let mut entries = Vec::new(heap);
     for i in 0..txns {
-        entries.push(Entry::Txn {
-            tid: tid_of(3, u16::from(i)),
-        })?;
+        entries.push(txn(tid_of(3, u16::from(i))))?;
     }
     for i in 0..puts {
-        entries.push(Entry::Put {
-            key: SLOT,
-            value: i64::from(i) - 5,
-        })?;
+        entries.push(put(SLOT, i64::from(i) - 5))?;
     }
     for i in 0..dels {
-        entries.push(Entry::Del {
-            key: Key {
-                kind: 2,
-                code: u128::from(i),
-            },
-        })?;
+        entries.push(del(Key {
+            kind: 2,
+            code: u128::from(i),
+        }))?;
     }
     Ok(entries)
 }
@@ -55,20 +68,14 @@ fn log_entries(heap: Global, txns: u8, puts: u8, dels: u8) -> Result<Vec<Entry>,
 fn part_entries(heap: Global, rows: u8, erased: u8) -> Result<Vec<Entry>, AllocError> {
     let mut entries = Vec::new(heap);
     for i in 0..rows {
-        entries.push(Entry::Row {
-            tid: tid_of(2, u16::from(i)),
-            key: SLOT,
-            value: i64::from(i) - 5,
-        })?;
+        entries.push(row(tid_of(2, u16::from(i)), SLOT, i64::from(i) - 5))?;
     }
     for i in 0..erased {
-        entries.push(Entry::Gone {
-            tid: tid_of(2, u16::from(i)),
-            key: Key {
-                kind: 3,
-                code: u128::from(i),
-            },
-        })?;
+        let key = Key {
+            kind: 3,
+            code: u128::from(i),
+        };
+        entries.push(gone(tid_of(2, u16::from(i)), key))?;
     }
     Ok(entries)
 }
@@ -184,192 +191,110 @@ fn calls_are_refused(rt: HostRuntime) -> Result<(), Fail> {
     Ok(())
 }
 
-// Commands that may not stand there or are out of range: the reader and the writer find the same fault.
-#[test]
-fn wrong_commands_are_refused(rt: HostRuntime) -> Result<(), Fail> {
-    let txn = Entry::Txn { tid: tid_of(3, 0) };
-    let put = Entry::Put {
-        key: SLOT,
-        value: 900,
-    };
-    let row = Entry::Row {
-        tid: tid_of(2, 5),
-        key: SLOT,
-        value: 900,
-    };
-    let misplaced = Refusal::MisplacedCommand;
-    let field = Refusal::FieldOutOfRange;
-    let pairs = [
-        (put, put, fault(0, misplaced, 8, 0)),
-        (Entry::Del { key: GROUP }, put, fault(3, misplaced, 8, 0)),
-        (txn, row, fault(0, misplaced, 17, 3)),
-        (
-            txn,
-            Entry::Gone {
-                tid: tid_of(2, 5),
-                key: GROUP,
-            },
-            fault(0, misplaced, 17, 3),
-        ),
-        (row, txn, fault(4, misplaced, 42, 2)),
-        (row, put, fault(7, misplaced, 42, 2)),
-        (row, Entry::Del { key: GROUP }, fault(4, misplaced, 42, 2)),
-        (
-            txn,
-            Entry::Txn { tid: tid_of(0, 1) },
-            fault(0, field, 18, 3),
-        ),
-        (
-            Entry::Txn {
-                tid: tid_of(1_000_001, 0),
-            },
-            txn,
-            fault(0, field, 9, 0),
-        ),
-        (
-            txn,
-            Entry::Put {
-                key: WRONG_KIND,
-                value: 1_000_000_001,
-            },
-            fault(0, field, 18, 3),
-        ),
-        (
-            txn,
-            Entry::Put {
-                key: SLOT,
-                value: 1_000_000_001,
-            },
-            fault(0, field, 35, 3),
-        ),
-        (
-            txn,
-            Entry::Put {
-                key: SLOT,
-                value: -1_000_000_001,
-            },
-            fault(0, field, 35, 3),
-        ),
-        (txn, Entry::Del { key: WRONG_KIND }, fault(0, field, 18, 3)),
-        (
-            row,
-            Entry::Row {
-                tid: tid_of(0, 5),
-                key: SLOT,
-                value: 1,
-            },
-            fault(4, field, 43, 2),
-        ),
-        (
-            Entry::Gone {
-                tid: tid_of(1_000_001, 5),
-                key: SLOT,
-            },
-            row,
-            fault(4, field, 9, 0),
-        ),
-        (
-            row,
-            Entry::Row {
-                tid: tid_of(9, 5),
-                key: WRONG_KIND,
-                value: 1,
-            },
-            fault(4, field, 51, 9),
-        ),
-        (
-            row,
-            Entry::Gone {
-                tid: tid_of(9, 5),
-                key: WRONG_KIND,
-            },
-            fault(4, field, 51, 9),
-        ),
-        (
-            row,
-            Entry::Row {
-                tid: tid_of(9, 5),
-                key: SLOT,
-                value: -1_000_000_001,
-            },
-            fault(4, field, 68, 9),
-        ),
-    ];
+// Each pair of commands, in a block of its own, gives the reader and the writer the same fault.
+fn both_refuse(rt: &impl Abort, pairs: &[(Entry, Entry, BlockFault)]) -> Result<(), Fail> {
     for (first, second, wanted) in pairs {
-        let block = draft_of(wanted.at.file, &[first, second])?;
-        is_refused(&rt, &block, MARKED, wanted)?;
+        let entries = [*first, *second];
+        let block = draft_of(wanted.at.file, &entries)?;
+        is_refused(rt, &block, MARKED, *wanted)?;
         assert_eq!(rt;
-            write_block(wanted.at.file, NUMBER, &[first, second]),
-            Err(WriteError::Faulty(wanted))
+            write_block(wanted.at.file, NUMBER, &entries),
+            Err(WriteError::Faulty(*wanted))
         );
     }
     Ok(())
+}
+
+// Commands that may not stand where they stand.
+fn misplaced_ones_are_refused(rt: &impl Abort) -> Result<(), Fail> {
+    let begin = txn(tid_of(3, 0));
+    let write = put(SLOT, 900);
+    let kept = row(tid_of(2, 5), SLOT, 900);
+    let misplaced = Refusal::MisplacedCommand;
+    both_refuse(
+        rt,
+        &[
+            (write, write, fault(0, misplaced, 8, 0)),
+            (del(GROUP), write, fault(3, misplaced, 8, 0)),
+            (begin, kept, fault(0, misplaced, 17, 3)),
+            (begin, gone(tid_of(2, 5), GROUP), fault(0, misplaced, 17, 3)),
+            (kept, begin, fault(4, misplaced, 42, 2)),
+            (kept, write, fault(7, misplaced, 42, 2)),
+            (kept, del(GROUP), fault(4, misplaced, 42, 2)),
+        ],
+    )
+}
+
+// Commands of a log with a field out of range.
+fn log_fields_are_refused(rt: &impl Abort) -> Result<(), Fail> {
+    let begin = txn(tid_of(3, 0));
+    let field = Refusal::FieldOutOfRange;
+    both_refuse(
+        rt,
+        &[
+            (begin, txn(tid_of(0, 1)), fault(0, field, 18, 3)),
+            (txn(tid_of(1_000_001, 0)), begin, fault(0, field, 9, 0)),
+            (
+                begin,
+                put(WRONG_KIND, 1_000_000_001),
+                fault(0, field, 18, 3),
+            ),
+            (begin, put(SLOT, 1_000_000_001), fault(0, field, 35, 3)),
+            (begin, put(SLOT, -1_000_000_001), fault(0, field, 35, 3)),
+            (begin, del(WRONG_KIND), fault(0, field, 18, 3)),
+        ],
+    )
+}
+
+// Rows of a part with a field out of range.
+fn part_fields_are_refused(rt: &impl Abort) -> Result<(), Fail> {
+    let kept = row(tid_of(2, 5), SLOT, 900);
+    let field = Refusal::FieldOutOfRange;
+    both_refuse(
+        rt,
+        &[
+            (kept, row(tid_of(0, 5), SLOT, 1), fault(4, field, 43, 2)),
+            (
+                gone(tid_of(1_000_001, 5), SLOT),
+                kept,
+                fault(4, field, 9, 0),
+            ),
+            (
+                kept,
+                row(tid_of(9, 5), WRONG_KIND, 1),
+                fault(4, field, 51, 9),
+            ),
+            (kept, gone(tid_of(9, 5), WRONG_KIND), fault(4, field, 51, 9)),
+            (
+                kept,
+                row(tid_of(9, 5), SLOT, -1_000_000_001),
+                fault(4, field, 68, 9),
+            ),
+        ],
+    )
+}
+
+// Commands that may not stand there or are out of range: the reader and the writer find the same fault.
+#[test]
+fn wrong_commands_are_refused(rt: HostRuntime) -> Result<(), Fail> {
+    misplaced_ones_are_refused(&rt)?;
+    log_fields_are_refused(&rt)?;
+    part_fields_are_refused(&rt)
 }
 
 // Each limit itself is taken, and a row is held to the marked epoch.
 #[test]
 fn limits_are_kept(rt: HostRuntime) -> Result<(), Fail> {
     let last = tid_of(1_000_000, 65_535);
-    let kind = Key {
+    let key = Key {
         kind: 3,
         code: u128::MAX,
     };
-    let first = Entry::Txn { tid: tid_of(1, 0) };
-    comes_back(
-        &rt,
-        0,
-        &[
-            first,
-            Entry::Put {
-                key: kind,
-                value: 1_000_000_000,
-            },
-        ],
-        35,
-    )?;
-    comes_back(
-        &rt,
-        0,
-        &[
-            Entry::Txn { tid: last },
-            Entry::Put {
-                key: SLOT,
-                value: -1_000_000_000,
-            },
-        ],
-        35,
-    )?;
-    comes_back(
-        &rt,
-        7,
-        &[
-            Entry::Row {
-                tid: last,
-                key: kind,
-                value: 0,
-            },
-            Entry::Gone {
-                tid: last,
-                key: SLOT,
-            },
-        ],
-        60,
-    )?;
-    let block = write_block(
-        4,
-        NUMBER,
-        &[
-            Entry::Row {
-                tid: tid_of(2, 0),
-                key: SLOT,
-                value: 1,
-            },
-            Entry::Gone {
-                tid: tid_of(3, 0),
-                key: SLOT,
-            },
-        ],
-    )?;
+    comes_back(&rt, 0, &[txn(tid_of(1, 0)), put(key, 1_000_000_000)], 35)?;
+    comes_back(&rt, 0, &[txn(last), put(SLOT, -1_000_000_000)], 35)?;
+    comes_back(&rt, 7, &[row(last, key, 0), gone(last, SLOT)], 60)?;
+    let rows = [row(tid_of(2, 0), SLOT, 1), gone(tid_of(3, 0), SLOT)];
+    let block = write_block(4, NUMBER, &rows)?;
     is_refused(&rt, &block, 2, fault(4, Refusal::FieldOutOfRange, 43, 3))?;
     is_refused(&rt, &block, 1, fault(4, Refusal::FieldOutOfRange, 9, 2))?;
     assert!(rt; read(&block, 4, NUMBER, 3).is_ok());
@@ -378,17 +303,7 @@ fn limits_are_kept(rt: HostRuntime) -> Result<(), Fail> {
 
 // A block of 35 command bytes, whose last value ends in a zero byte.
 fn short_block() -> Result<[u8; 512], WriteError> {
-    write_block(
-        0,
-        NUMBER,
-        &[
-            Entry::Txn { tid: tid_of(3, 0) },
-            Entry::Put {
-                key: SLOT,
-                value: 0x300,
-            },
-        ],
-    )
+    write_block(0, NUMBER, &[txn(tid_of(3, 0)), put(SLOT, 0x300)])
 }
 
 // One byte is changed, and then the sum is made right: each later check is reached.

@@ -23,8 +23,6 @@ fn read_script(rt: &HostRuntime) -> anyhow::Result<Script> {
 }
 
 fn main(rt: HostRuntime) -> anyhow::Result<()> {
-    match read_script(&rt) {
-        Ok(script) => run(&rt, &script),
-        Err(e) => Err(e),
-    }
+    let script = read_script(&rt)?;
+    run(&rt, &script)
 }

@@ -1,11 +1,11 @@
 -- The marked epoch lies before all that is under way, and never falls.
-use Rattle.std.proofs.Common.{◌≡◌, ℕ, zero, suc, ◌+◌, ◌-◌, ◌<◌, ◌≤◌, min, Bool, true, false, cond, not, ◌&&◌, eqb, ltb, leb, List, [], ◌∷◌, ◌++◌, length, get_or, set, IfOk, Some, None, Ok, Err, Option, Result, sym, refl, ap, subst, arith}
+use Rattle.std.proofs.Common.{◌≡◌, ℕ, zero, suc, ◌+◌, ◌-◌, ◌<◌, ◌≤◌, min, Bool, true, false, cond, is_some, not, ◌&&◌, eqb, ltb, leb, List, [], ◌∷◌, ◌++◌, length, get_or, set, IfOk, Some, None, Ok, Err, Option, Result, sym, refl, ap, subst, arith}
 use Rattle.std.specs.List.{AllByRecursion}
 use Rattle.block.specs.Fitting.{fits, room}
 use Rattle.block.specs.Format.{content}
 use Rattle.table.specs.Order.{most_records}
 use Rattle.table.specs.Records.{look}
-use Rattle.rules.specs.Transactions.{Done, Read, Locked, is_phase, most_keys, is_some, begin_rule, begun, noting, note_read, with_cell, read_own, read_rule, changed, changing, cell_fits, change_rule, any_held, lock_keys, locking, lock_rule, any_changed, greatest_seen, next_tid, needs, validating, validate_tid, validate_rule, install_keys, commands, ended, logging, install_rule, abandoned, abandon_rule}
+use Rattle.rules.specs.Transactions.{Done, Read, Locked, is_phase, most_keys, begin_rule, begun, noting, note_read, with_cell, read_own, read_rule, changed, changing, cell_fits, change_rule, any_held, lock_keys, locking, lock_rule, any_changed, greatest_seen, next_tid, needs, validating, validate_tid, validate_rule, install_keys, commands, ended, logging, install_rule, abandoned, abandon_rule}
 use Rattle.std.proofs.ByRecursion.{All-set}
 use Rattle.base.specs.declared.key.Key.{Key}
 use Rattle.base.specs.declared.refusal.Refusal.{Refusal}

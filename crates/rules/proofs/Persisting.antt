@@ -6,7 +6,7 @@ use Rattle.medium.specs.declared.mark.Mark.{Mark}
 use Rattle.rules.specs.declared.call.Call.{Call}
 use Rattle.rules.specs.declared.call.Call.TheVariants as call
 use Rattle.rules.specs.declared.call.Answer.{Answer}
-use Rattle.rules.specs.declared.call.Answer.TheVariants.{Number, Cell as Cell-answer, No}
+use Rattle.rules.specs.declared.call.Answer.TheVariants.{Number, Cell as CellAnswer, No}
 use Rattle.rules.specs.State.{State, with_medium}
 use Rattle.rules.specs.Calls.{rule, played, history, persist_at}
 use Rattle.rules.specs.Laws.{is_persist, MarkedAsAnswered}
@@ -18,59 +18,59 @@ use Rattle.rules.proofs.Refusing.{careful}
 -- only a persist tells of the persistent epoch
 quiet : (st : Story) (c : Call) (a : Answer) → is_persist c ≡ false → (told_by st c a).persistent ≡ st.persistent
 quiet st (call.Begin w) (Number n) h = refl
-quiet st (call.Begin w) (Cell-answer x) h = refl
+quiet st (call.Begin w) (CellAnswer x) h = refl
 quiet st (call.Begin w) (No e) h = refl
 quiet st (call.Read w k) (Number n) h = refl
-quiet st (call.Read w k) (Cell-answer x) h = refl
+quiet st (call.Read w k) (CellAnswer x) h = refl
 quiet st (call.Read w k) (No e) h = refl
 quiet st (call.Write w k v) (Number n) h = refl
-quiet st (call.Write w k v) (Cell-answer x) h = refl
+quiet st (call.Write w k v) (CellAnswer x) h = refl
 quiet st (call.Write w k v) (No e) h = refl
 quiet st (call.Erase w k) (Number n) h = refl
-quiet st (call.Erase w k) (Cell-answer x) h = refl
+quiet st (call.Erase w k) (CellAnswer x) h = refl
 quiet st (call.Erase w k) (No e) h = refl
 quiet st (call.Lock w) (Number n) h = refl
-quiet st (call.Lock w) (Cell-answer x) h = refl
+quiet st (call.Lock w) (CellAnswer x) h = refl
 quiet st (call.Lock w) (No e) h = refl
 quiet st (call.Validate w) (Number n) h = refl
-quiet st (call.Validate w) (Cell-answer x) h = refl
+quiet st (call.Validate w) (CellAnswer x) h = refl
 quiet st (call.Validate w) (No e) h = refl
 quiet st (call.Install w) (Number n) h = refl
-quiet st (call.Install w) (Cell-answer x) h = refl
+quiet st (call.Install w) (CellAnswer x) h = refl
 quiet st (call.Install w) (No e) h = refl
 quiet st (call.Abandon w) (Number n) h = refl
-quiet st (call.Abandon w) (Cell-answer x) h = refl
+quiet st (call.Abandon w) (CellAnswer x) h = refl
 quiet st (call.Abandon w) (No e) h = refl
 quiet st call.Advance (Number n) h = refl
-quiet st call.Advance (Cell-answer x) h = refl
+quiet st call.Advance (CellAnswer x) h = refl
 quiet st call.Advance (No e) h = refl
 quiet st (call.Spill l) (Number n) h = refl
-quiet st (call.Spill l) (Cell-answer x) h = refl
+quiet st (call.Spill l) (CellAnswer x) h = refl
 quiet st (call.Spill l) (No e) h = refl
 quiet st (call.Sync f) (Number n) h = refl
-quiet st (call.Sync f) (Cell-answer x) h = refl
+quiet st (call.Sync f) (CellAnswer x) h = refl
 quiet st (call.Sync f) (No e) h = refl
 quiet st call.Persist a h = let z : ◌≡◌ {A = ℕ} 0 1 = cc in absurd (omega arith)
 quiet st (call.Release r) (Number n) h = refl
-quiet st (call.Release r) (Cell-answer x) h = refl
+quiet st (call.Release r) (CellAnswer x) h = refl
 quiet st (call.Release r) (No e) h = refl
 quiet st (call.Void r) (Number n) h = refl
-quiet st (call.Void r) (Cell-answer x) h = refl
+quiet st (call.Void r) (CellAnswer x) h = refl
 quiet st (call.Void r) (No e) h = refl
 quiet st call.CheckpointStart (Number n) h = refl
-quiet st call.CheckpointStart (Cell-answer x) h = refl
+quiet st call.CheckpointStart (CellAnswer x) h = refl
 quiet st call.CheckpointStart (No e) h = refl
 quiet st (call.CheckpointStep p) (Number n) h = refl
-quiet st (call.CheckpointStep p) (Cell-answer x) h = refl
+quiet st (call.CheckpointStep p) (CellAnswer x) h = refl
 quiet st (call.CheckpointStep p) (No e) h = refl
 quiet st call.CheckpointClose (Number n) h = refl
-quiet st call.CheckpointClose (Cell-answer x) h = refl
+quiet st call.CheckpointClose (CellAnswer x) h = refl
 quiet st call.CheckpointClose (No e) h = refl
 quiet st (call.Retire f) (Number n) h = refl
-quiet st (call.Retire f) (Cell-answer x) h = refl
+quiet st (call.Retire f) (CellAnswer x) h = refl
 quiet st (call.Retire f) (No e) h = refl
 quiet st (call.Value k) (Number n) h = refl
-quiet st (call.Value k) (Cell-answer x) h = refl
+quiet st (call.Value k) (CellAnswer x) h = refl
 quiet st (call.Value k) (No e) h = refl
 
 persist_marks : (s : State) (d : ℕ) → (persist_at s d).state.medium.mark.epoch ≡ d

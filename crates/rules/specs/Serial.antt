@@ -5,7 +5,7 @@ use Rattle.table.specs.Order.{same_key}
 use Rattle.rules.specs.declared.call.Call.{Call}
 use Rattle.rules.specs.declared.call.Call.TheVariants as call
 use Rattle.rules.specs.declared.call.Answer.{Answer}
-use Rattle.rules.specs.declared.call.Answer.TheVariants.{Number, Cell as Cell-answer, No}
+use Rattle.rules.specs.declared.call.Answer.TheVariants.{Number, Cell as CellAnswer, No}
 use Rattle.rules.specs.declared.call.Event.{Event}
 use Rattle.rules.specs.State.{Cell}
 use Rattle.rules.specs.Recovery.{Seen}
@@ -113,7 +113,7 @@ told_cell s (call.Value k) c = s
 
 abbrev pub told_by : Story → Call → Answer → Story
 told_by s c (Number n) = told_number s c n
-told_by s c (Cell-answer x) = told_cell s c x
+told_by s c (CellAnswer x) = told_cell s c x
 told_by s c (No e) = s
 
 abbrev pub told : Story → Event → Story

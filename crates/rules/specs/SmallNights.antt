@@ -11,7 +11,7 @@ use Rattle.table.specs.declared.record.Record.{Record}
 use Rattle.rules.specs.declared.call.Call.{Call}
 use Rattle.rules.specs.declared.call.Call.TheVariants.{Begin, Read, Write, Erase, Lock, Validate, Install, Advance, Spill, Sync, Persist, Release, CheckpointStart, CheckpointStep, CheckpointClose}
 use Rattle.rules.specs.declared.call.Answer.{Answer}
-use Rattle.rules.specs.declared.call.Answer.TheVariants.{Number, Cell as Seen-cell, No}
+use Rattle.rules.specs.declared.call.Answer.TheVariants.{Number, Cell as CellAnswer, No}
 use Rattle.rules.specs.declared.call.Event.{Event}
 use Rattle.rules.specs.State.{Cell, State}
 use Rattle.rules.specs.Calls.{opened, played, history}
@@ -143,7 +143,7 @@ abbrev pub looked : List Call
 looked = Begin 2 ∷ Read 2 (key 7) ∷ Lock 2 ∷ Validate 2 ∷ Install 2 ∷ Advance ∷ Persist ∷ Release 0 ∷ []
 
 pub record ReadOnly : Type 0 where
-  pub absent : answer_at 1 looked ≡ Seen-cell None
+  pub absent : answer_at 1 looked ≡ CellAnswer None
   pub tid : answer_at 3 looked ≡ Number 65536
   pub released : answer_at 7 looked ≡ Number 0
 

@@ -1,5 +1,5 @@
 -- The rules of one transaction, each over what it touches. Refusals stand in the order in which they count.
-use Rattle.std.specs.Prelude.{ℕ, ◌+◌, ◌*◌, max, Bool, true, false, cond, not, ◌&&◌, ◌||◌, List, [], ◌∷◌, ◌++◌, length, Some, None, Ok, Err, Option, Result, ◌==◌, nat_le, nat_lt}
+use Rattle.std.specs.Prelude.{ℕ, ◌+◌, ◌*◌, max, Bool, true, false, cond, not, ◌&&◌, ◌||◌, List, [], ◌∷◌, ◌++◌, length, Some, None, Ok, Err, Option, Result, is_some, ◌==◌, nat_le, nat_lt}
 use Rattle.base.specs.Limits.{value_fits}
 use Rattle.base.specs.declared.key.Key.{Key}
 use Rattle.base.specs.declared.refusal.Refusal.{Refusal}
@@ -39,10 +39,6 @@ is_phase validated validated = true
 -- a transaction takes at most so many keys to read, and so many to write
 abbrev pub most_keys : ℕ
 most_keys = 16
-
-abbrev pub is_some : {A : Type 0} → Option A → Bool
-is_some None = false
-is_some (Some x) = true
 
 -- begin
 abbrev pub begun : Worker → Worker

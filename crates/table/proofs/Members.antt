@@ -1,6 +1,6 @@
 -- What is in a sorted list, and what holds of all that is.
 use Rattle.std.proofs.Common.{◌≡◌, ℕ, zero, suc, ◌<◌, true, cond, List, [], ◌∷◌, length, get_or, Some, refl, subst, inl, inr}
-use Rattle.std.specs.List.{slice_get, ContainsAt as Has, AllByRecursion as All}
+use Rattle.std.specs.List.{slice_get, ContainsAt as Has, AllByRecursion}
 use Rattle.std.proofs.lemmas.Option.{slice_get-get_or}
 use Rattle.std.proofs.lemmas.Bool.{and_parts, cases_Bool}
 use Rattle.base.specs.declared.key.Key.{Key}
@@ -16,7 +16,7 @@ nth_behind k [] i r a h = absurd (none_some r h)
 nth_behind k (s ∷ ss) zero r a h = let e : s ≡ r = cc in subst (λ (x : Record). before k x.key ≡ true) e (and_parts _ _ a).0
 nth_behind k (s ∷ ss) (suc i) r a h = nth_behind k ss i r (and_parts _ _ a).1 h
 
-all_from_nth : (P : Record → Type 0) (rs : List Record) → ((i : ℕ) (r : Record) → slice_get rs i ≡ Some r → P r) → All P rs
+all_from_nth : (P : Record → Type 0) (rs : List Record) → ((i : ℕ) (r : Record) → slice_get rs i ≡ Some r → P r) → AllByRecursion P rs
 all_from_nth P [] h = tt
 all_from_nth P (r ∷ rs) h = (h 0 r refl, all_from_nth P rs (λ i s e. h (suc i) s e))
 
@@ -46,7 +46,7 @@ nth_from_look k (s ∷ ss) r h =
     ]
 
 module _ (P : Record → Type 0) where
-  pub all_look : (k : Key) (rs : List Record) (r : Record) → All P rs → look k rs ≡ Some r → P r
+  pub all_look : (k : Key) (rs : List Record) (r : Record) → AllByRecursion P rs → look k rs ≡ Some r → P r
   unfolding look
   all_look k [] r a h = absurd (none_some r h)
   all_look k (s ∷ ss) r a h =
@@ -55,10 +55,10 @@ module _ (P : Record → Type 0) where
         | inr n ↦ all_look k ss r a.1 (simp n at h)
       ]
 
-  pub all_from_look : (rs : List Record) → sorted rs ≡ true → ((k : Key) (r : Record) → look k rs ≡ Some r → P r) → All P rs
+  pub all_from_look : (rs : List Record) → sorted rs ≡ true → ((k : Key) (r : Record) → look k rs ≡ Some r → P r) → AllByRecursion P rs
   all_from_look rs o h = all_from_nth P rs (λ i r e. h r.key r (look_nth rs i r o e))
 
-  pub all_put : (r : Record) (rs : List Record) → P r → All P rs → All P (put r rs)
+  pub all_put : (r : Record) (rs : List Record) → P r → AllByRecursion P rs → AllByRecursion P (put r rs)
   unfolding put
   all_put r [] p a = (p, tt)
   all_put r (s ∷ ss) p a =
@@ -68,7 +68,7 @@ module _ (P : Record → Type 0) where
         | past b n l ↦ simp (n, l) (p, a)
       ]
 
-  pub all_take_out : (k : Key) (rs : List Record) → All P rs → All P (take_out k rs)
+  pub all_take_out : (k : Key) (rs : List Record) → AllByRecursion P rs → AllByRecursion P (take_out k rs)
   unfolding take_out
   all_take_out k [] a = a
   all_take_out k (r ∷ rs) a =
