@@ -1,8 +1,9 @@
 // Faults: a refusal with the place where it arose, and the fault of the layer below that caused it.
 ghost use Rattle.std.specs.Prelude.{◌≡◌};
-ghost use Rattle.base.specs.Faults.{from_medium, from_block};
+ghost use Rattle.base.specs.Faults.{raised};
 
 use crate::refusal::Refusal;
+use std::convert::Infallible;
 
 // The layers that a fault passes on its way up.
 #[derive(Clone, Copy, PartialEq, Eq, Debug)]
@@ -22,25 +23,20 @@ pub struct Place {
     pub epoch: u32,
 }
 
+// A fault of one layer, with the fault of the layer below that caused it, if one did.
 #[derive(Clone, Copy, PartialEq, Debug)]
-pub struct MediumFault {
+pub struct Fault<Cause> {
     pub refusal: Refusal,
     pub at: Place,
+    pub cause: Option<Cause>,
 }
 
-#[derive(Clone, Copy, PartialEq, Debug)]
-pub struct BlockFault {
-    pub refusal: Refusal,
-    pub at: Place,
-    pub cause: Option<MediumFault>,
-}
+// Below the medium there is no layer.
+pub type MediumFault = Fault<Infallible>;
 
-#[derive(Clone, Copy, PartialEq, Debug)]
-pub struct ReplayFault {
-    pub refusal: Refusal,
-    pub at: Place,
-    pub cause: Option<BlockFault>,
-}
+pub type BlockFault = Fault<MediumFault>;
+
+pub type ReplayFault = Fault<BlockFault>;
 
 impl MediumFault {
     pub const LAYER: Layer = Layer::Medium;
@@ -54,28 +50,15 @@ impl ReplayFault {
     pub const LAYER: Layer = Layer::Replay;
 }
 
-// A fault of the medium, met by the layer that reads blocks.
-impl From<MediumFault> for BlockFault {
-    ghost from_gives = { λ e r. r ≡ from_medium e };
+// A fault met by the layer above.
+impl<Cause: Copy> From<Fault<Cause>> for Fault<Fault<Cause>> {
+    ghost from_gives = { λ e r. r ≡ raised e };
 
-    fn from(medium: MediumFault) -> BlockFault {
-        BlockFault {
-            refusal: medium.refusal,
-            at: medium.at,
-            cause: Some(medium),
-        }
-    }
-}
-
-// A fault of a block, met by the replay.
-impl From<BlockFault> for ReplayFault {
-    ghost from_gives = { λ e r. r ≡ from_block e };
-
-    fn from(block: BlockFault) -> ReplayFault {
-        ReplayFault {
-            refusal: block.refusal,
-            at: block.at,
-            cause: Some(block),
+    fn from(below: Fault<Cause>) -> Fault<Fault<Cause>> {
+        Fault {
+            refusal: below.refusal,
+            at: below.at,
+            cause: Some(below),
         }
     }
 }

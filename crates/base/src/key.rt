@@ -2,8 +2,9 @@
 ghost use Rattle.std.specs.Prelude.{◌≡◌, ℕ, ◌≤◌};
 ghost use Rattle.std.proofs.Common.{rules};
 
-// A key as tables and blocks hold it: the number of its kind, and its code, the number that its 16 bytes spell.
-#[derive(Clone, Copy, PartialEq, Eq, Debug)]
+// A key as tables and blocks hold it: the number of its kind, and its code, the number that its 16 bytes spell. The
+// kind is a number and no enum: kinds are open to whoever implements `KeyKind`, and a block may hold any byte there.
+#[derive(Clone, Copy, PartialEq, Eq, PartialOrd, Ord, Debug)]
 pub struct Key {
     pub kind: u8,
     pub code: u128,
@@ -31,12 +32,14 @@ pub trait KeyKind {
 }
 
 // The form in which tables and blocks hold a key.
-pub fn key_of<K: KeyKind>(key: &K) -> Key
-    ensures { result ≡ record { kind = K.kind; code = K.coded key.now } }
-{
-    Key {
-        kind: K::kind_number(),
-        code: key.code(),
+impl<K: KeyKind> From<&K> for Key {
+    ghost from_gives = { λ k r. r ≡ record { kind = K.kind; code = K.coded k.now } };
+
+    fn from(key: &K) -> Key {
+        Key {
+            kind: K::kind_number(),
+            code: key.code(),
+        }
     }
 }
 

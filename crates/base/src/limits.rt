@@ -32,11 +32,11 @@ pub const LAST_COUNT: u32 = 16_777_215;
 pub fn value_fits(value: i64) -> bool
     ensures { result ≡ value_fits value }
 {
-    LEAST_VALUE <= value && value <= GREATEST_VALUE
+    (LEAST_VALUE..=GREATEST_VALUE).contains(&value)
 }
 
 pub fn epoch_fits(epoch: u64) -> bool
     ensures { result ≡ epoch_fits epoch }
 {
-    1 <= epoch && epoch <= LAST_EPOCH
+    (1..=LAST_EPOCH).contains(&epoch)
 }

@@ -1,13 +1,9 @@
 // Every way in which a call says no.
-ghost use Rattle.std.specs.Prelude.{◌≡◌, nat_eq};
+ghost use Rattle.std.specs.Prelude.{◌≡◌};
 ghost use Rattle.base.specs.Refusals.{number_of};
-ghost use Rattle.std.specs.Cmp.Rules.{comparing};
-ghost use Rattle.std.proofs.Common.{rules};
-ghost use Rattle.std.specs.Cmp.{partial_equiv_from_equiv};
-ghost use Rattle.std.specs.Ordering.{on};
 
 // The discriminant of a case is the number that stands for it outside.
-#[derive(Clone, Copy, Eq, Debug)]
+#[derive(Clone, Copy, PartialEq, Eq, Debug)]
 pub enum Refusal {
     MasksUnfit = 11,
     MediumNotFresh = 12,
@@ -48,19 +44,10 @@ pub enum Refusal {
 }
 
 impl Refusal {
+    // A method and no `u8::from`: where it is called, `refusal.number()` says which number it is.
     pub fn number(self) -> u8
         ensures { result ≡ number_of self }
     {
         self as u8
-    }
-}
-
-impl PartialEq for Refusal {
-    ghost eq = { on number_of nat_eq };
-
-    ghost laws = { partial_equiv_from_equiv (Prim.search (comparing, rules)) };
-
-    fn eq(&self, other: &Refusal) -> bool {
-        self.number() == other.number()
     }
 }

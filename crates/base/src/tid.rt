@@ -1,4 +1,5 @@
-// Transaction numbers: an epoch and a place within it.
+// Transaction numbers: an epoch and a place within it. A TID is a plain number and no type of its own, since a block
+// may hold any number in its place: so these are functions, and no conversions of a type.
 ghost use Rattle.std.specs.Prelude.{◌≡◌};
 ghost use Rattle.base.specs.Tids.{tid_of, epoch_of, sequence_of};
 

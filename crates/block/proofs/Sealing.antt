@@ -6,7 +6,7 @@ use Rattle.std.proofs.lemmas.List.{take_at, drop_at, take_all, drop-drop, take-a
 use Rattle.std.proofs.lemmas.Bool.{le-ltb, eq-eqb, eqb-true}
 use Rattle.std.proofs.lemmas.Bool.Decides.{nat_tests}
 use Rattle.base.specs.Bytes.{be, be_at, number_at, Bytes}
-use Rattle.base.specs.declared.fault.BlockFault.{BlockFault}
+use Rattle.base.specs.Faults.{BlockFault}
 use Rattle.base.specs.declared.refusal.Refusal.{Refusal}
 use Rattle.base.specs.Spelling.{reads_back, take_small, drop_small}
 use Rattle.block.specs.declared.entry.Entry.{Entry}

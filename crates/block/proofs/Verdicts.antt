@@ -1,7 +1,7 @@
 -- The first fault of a block, check by check.
 use Rattle.std.proofs.Common.{◌≡◌, ℕ, List, Some, None, Ok, Err, Option, sym, refl, ap, arith}
 use Rattle.base.specs.Bytes.{number_at}
-use Rattle.base.specs.declared.fault.BlockFault.{BlockFault}
+use Rattle.base.specs.Faults.{BlockFault}
 use Rattle.block.specs.Checks.{passed, judged, first_some, header_fault, sum_fault, padding_fault, commands_fault, commands_in, read_answer}
 use Rattle.block.specs.Parsing.{entries}
 

@@ -1,6 +1,6 @@
 -- One command of the walk after the other.
 use Rattle.std.proofs.Common.{◌≡◌, ℕ, ◌+◌, ◌<◌, ◌≤◌, List, [], ◌∷◌, length, drop, Some, None, Ok, Err, sym, refl, ap, ◌∙◌, arith, length-drop}
-use Rattle.base.specs.declared.fault.BlockFault.{BlockFault}
+use Rattle.base.specs.Faults.{BlockFault}
 use Rattle.block.specs.declared.entry.Entry.{Entry}
 use Rattle.block.specs.declared.way.Way.{Way}
 use Rattle.block.specs.Format.{size_of}

@@ -3,7 +3,7 @@ use Rattle.std.specs.Prelude.{ℕ, ◌+◌, ◌-◌, Bool, true, false, cond, no
 use Rattle.base.specs.Bytes.{number_at}
 use Rattle.base.specs.Limits.{epoch_fits, value_fits}
 use Rattle.base.specs.Tids.{epoch_of}
-use Rattle.base.specs.declared.fault.BlockFault.{BlockFault}
+use Rattle.base.specs.Faults.{BlockFault}
 use Rattle.base.specs.declared.key.Key.{Key}
 use Rattle.base.specs.declared.refusal.Refusal.{Refusal}
 use Rattle.base.specs.declared.refusal.Refusal.TheVariants.{BadHeader, BadSum, BadPadding, BadCommand, MisplacedCommand, FieldOutOfRange}

@@ -3,7 +3,7 @@ use Rattle.std.specs.Prelude.{ℕ, ◌-◌, List, length, Some, None, Ok, Err, O
 use Rattle.std.proofs.Common.{to_z}
 use Rattle.std.specs.Int.{w64}
 use Rattle.base.specs.Bytes.{be_at}
-use Rattle.base.specs.declared.fault.BlockFault.{BlockFault}
+use Rattle.base.specs.Faults.{BlockFault}
 use Rattle.block.specs.declared.command.Command.{Command}
 use Rattle.block.specs.declared.command.Command.TheVariants as read
 use Rattle.block.specs.declared.command.Commands.{Commands}

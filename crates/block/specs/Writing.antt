@@ -3,7 +3,7 @@ use Rattle.std.specs.Prelude.{◌≡◌, ℕ, ◌+◌, ◌≤◌, cond, List, []
 use Rattle.std.specs.List.{AllByRecursion}
 use Rattle.base.specs.Limits.{last_epoch}
 use Rattle.base.specs.Tids.{epoch_of}
-use Rattle.base.specs.declared.fault.BlockFault.{BlockFault}
+use Rattle.base.specs.Faults.{BlockFault}
 use Rattle.base.specs.declared.refusal.Refusal.TheVariants.{NoSuchIndex, NoRoomInBlock}
 use Rattle.block.specs.declared.entry.Entry.{Entry}
 use Rattle.block.specs.declared.entry.Entry.TheVariants.{Txn, Put, Del, Row, Gone}

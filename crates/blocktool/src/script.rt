@@ -1,6 +1,6 @@
 // The text that the tool reads: a command to a line.
 use base::group::Group;
-use base::key::{Key, Slot, key_of};
+use base::key::{Key, Slot};
 use base::limits::LAST_EPOCH;
 use base::tid::tid_of;
 use block::entry::Entry;
@@ -76,15 +76,15 @@ pub struct Script {
 }
 
 fn parse_group(text: &[u8]) -> Result<Key, Mistake> {
-    match Group::new(text) {
-        Ok(group) => Ok(key_of(&group)),
+    match Group::try_from(text) {
+        Ok(group) => Ok(Key::from(&group)),
         Err(_) => Err(Mistake::Group),
     }
 }
 
 fn parse_key(kind: &str, name: &str) -> Result<Key, Mistake> {
     match kind {
-        "slot" => Ok(key_of(&Slot {
+        "slot" => Ok(Key::from(&Slot {
             number: name.parse::<u64>()?,
         })),
         "group" => parse_group(name.as_bytes()),

@@ -1,6 +1,6 @@
 -- A night: a list of calls on a store opened on a fresh medium, and where the power failed.
 use Rattle.std.specs.Prelude.{◌≡◌, ℕ, true, cond, List, [], ◌∷◌, ◌++◌, Some, None, Ok, Err, Option, Result, nat_lt}
-use Rattle.base.specs.declared.fault.ReplayFault.{ReplayFault}
+use Rattle.base.specs.Faults.{ReplayFault}
 use Rattle.medium.specs.Cuts.{Cut}
 use Rattle.medium.specs.Model.{MediumModel}
 use Rattle.medium.specs.Sound.{Sound, Fresh}

@@ -1,9 +1,7 @@
 -- Recovery: start, replay in any order of files, finish.
 use Rattle.std.specs.Prelude.{◌≡◌, ℕ, ◌+◌, Bool, true, cond, ◌&&◌, ◌||◌, List, [], ◌∷◌, length, Some, None, Ok, Err, Option, Result, nat_le, nat_lt, slice_index, slice_set}
-use Rattle.base.specs.Faults.{from_medium, from_block}
+use Rattle.base.specs.Faults.{MediumFault, BlockFault, ReplayFault, raised}
 use Rattle.base.specs.Tids.{epoch_of}
-use Rattle.base.specs.declared.fault.BlockFault.{BlockFault}
-use Rattle.base.specs.declared.fault.ReplayFault.{ReplayFault}
 use Rattle.base.specs.declared.key.Key.{Key}
 use Rattle.base.specs.declared.refusal.Refusal.{Refusal}
 use Rattle.base.specs.declared.refusal.Refusal.TheVariants.{BlocksLeft, TableFull, NoBlockLeft, MarkUnsound}
@@ -108,11 +106,15 @@ with_block r f n (Err e) = Err e
 
 abbrev pub taken_from : Recovery → ℕ → ℕ → Result (List Entry) BlockFault → Result Replayed ReplayFault
 taken_from r f n (Ok es) = with_block r f n (taken f n r.marked 8 no_txn es r.table)
-taken_from r f n (Err b) = Err (from_block b)
+taken_from r f n (Err b) = Err (raised b)
+
+-- a medium that does not give a block says so with its file and its number
+abbrev pub medium_fault : Refusal → ℕ → ℕ → MediumFault
+medium_fault e f n = record { refusal = e; at = record { file = f; block = n; byte = 0; epoch = 0 }; cause = None }
 
 abbrev pub fetched : Recovery → ℕ → ℕ → MediumModel → Result ℕ Refusal → Result Replayed ReplayFault
 fetched r f n m (Ok k) = taken_from r f n (read_answer f n r.marked (block_at (file_of m f) n []))
-fetched r f n m (Err e) = Err (from_block (from_medium (record { refusal = e; at = record { file = f; block = n; byte = 0; epoch = 0 } })))
+fetched r f n m (Err e) = Err (raised (raised (medium_fault e f n)))
 
 abbrev pub has_left : Recovery → ℕ → Bool
 has_left r f = nat_lt (slice_index r.next f) (slice_index r.ends f)

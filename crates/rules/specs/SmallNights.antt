@@ -1,6 +1,6 @@
 -- Small nights that the rules must tell rightly.
 use Rattle.std.specs.Prelude.{◌≡◌, ℕ, List, [], ◌∷◌, ◌++◌, replicate, pos, Some, None, Ok, Err, Option, Result, slice_index_or}
-use Rattle.base.specs.declared.fault.ReplayFault.{ReplayFault}
+use Rattle.base.specs.Faults.{ReplayFault}
 use Rattle.base.specs.declared.key.Key.{Key}
 use Rattle.base.specs.declared.refusal.Refusal.{Refusal}
 use Rattle.base.specs.declared.refusal.Refusal.TheVariants.{AdvanceHeldBack, NotPersistent}

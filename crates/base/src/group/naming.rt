@@ -1,7 +1,8 @@
 // How a group is made from its text, and its code.
-ghost use Rattle.std.specs.Prelude.{◌≡◌, ◌≤◌, not, length};
+ghost use Rattle.std.specs.Prelude.{◌≡◌, ◌≤◌, length};
 ghost use Rattle.std.proofs.Common.{ap, rules, arith};
-ghost use Rattle.base.specs.Codes.{no_zero, padded, group_code};
+ghost use Rattle.base.specs.Bytes.{Bytes};
+ghost use Rattle.base.specs.Codes.{group_text, padded, group_code};
 ghost use Rattle.base.specs.Groups.{text_of, texts, named};
 ghost use Rattle.base.specs.Padding.{same_text};
 
@@ -9,37 +10,35 @@ use super::Group;
 use crate::key::KeyKind;
 use crate::refusal::Refusal;
 
-fn has_zero(text: &[u8]) -> bool
-    ensures { result ≡ not (no_zero text.now) }
+// Whether a text may name a group.
+fn is_name(text: &[u8]) -> bool
+    ensures { result ≡ group_text text.now }
 {
-    for b in text {
-        if *b == 0 {
-            return true;
-        }
-    }
-    false
+    !text.is_empty() && text.len() <= 16 && !text.contains(&0)
 }
 
 fn pad(text: &[u8]) -> [u8; 16]
     requires { length text.now ≤ 16 }
-    ensures { result ≡ padded text.now }
+    ensures text { result ≡ padded text.now }
+    ensures small { Bytes result }
 {
     let mut bytes = [0u8; 16];
     bytes[0..text.len()].copy_from_slice(text);
     bytes
 }
 
-impl Group {
-    // The group of a text, or a refusal of one that names none.
-    pub fn new(text: &[u8]) -> Result<Group, Refusal>
-        ensures { texts result ≡ named text.now }
-    {
-        let len = text.len();
-        if len < 1 || len > 16 || has_zero(text) {
+// The group of a text, or a refusal of one that names none.
+impl TryFrom<&[u8]> for Group {
+    type Error = Refusal;
+
+    ghost try_from_gives = { λ text r. texts r ≡ named text.now };
+
+    fn try_from(text: &[u8]) -> Result<Group, Refusal> {
+        if !is_name(text) {
             return Err(Refusal::BadGroupText);
         }
         let bytes = pad(text);
-        Ok(Group { bytes, len })
+        Ok(Group { bytes })
     }
 }
 
