@@ -14,7 +14,7 @@ use std::alloc::{AllocError, Global};
 const BLOCKS: u32 = 64;
 
 // What a run gives: the blocks gone through, and a number that every one of them has a part in.
-#[derive(Clone, Copy)]
+#[derive(Clone, Copy, Default)]
 struct Tally {
     blocks: u64,
     digest: u64,
@@ -53,23 +53,25 @@ fn full_log(heap: Global) -> Result<Vec<Entry>, AllocError> {
     Ok(entries)
 }
 
-// The sum of a block, which all its bytes have a part in; 0 where there is no block.
-fn sum_of(written: Result<[u8; 512], WriteError>) -> u64 {
-    match written {
-        Ok(block) => u64::from(u16::from_be_bytes([block[510], block[511]])),
-        Err(_) => 0,
-    }
-}
-
-fn write_many(entries: &[Entry], rounds: u32) -> Tally {
-    let mut tally = Tally {
-        blocks: 0,
-        digest: 0,
-    };
+// So many rounds of one step, by their numbers; a round that gives nothing is not counted.
+fn tally_of<F: Fn(u32) -> Option<u64>>(rounds: u32, step: F) -> Tally
+    requires { F.IsAlwaysCallable step }
+{
+    let mut tally = Tally::default();
     for number in 0..rounds {
-        tally = tally.add(sum_of(write_block(0, number, entries)));
+        if let Some(part) = step(number) {
+            tally = tally.add(part);
+        }
     }
     tally
+}
+
+// The sum of a block, which all its bytes have a part in; 0 where there is no block.
+fn sum_of(written: Result<[u8; 512], WriteError>) -> u64 {
+    written.map_or(
+        0,
+        |block| u64::from(u16::from_be_bytes([block[510], block[511]])),
+    )
 }
 
 // The writes of a block, by the codes of their keys; 0 where the block is not read.
@@ -99,40 +101,12 @@ fn some_blocks(heap: Global, entries: &[Entry]) -> Result<Vec<[u8; 512]>, AllocE
     Ok(blocks)
 }
 
-fn read_many(blocks: &[[u8; 512]], rounds: u32) -> Tally {
-    let mut tally = Tally {
-        blocks: 0,
-        digest: 0,
-    };
-    for round in 0..rounds {
-        let number = round % BLOCKS;
-        if let Some(block) = blocks.get(number as usize) {
-            tally = tally.add(codes_of(block, number));
-        }
-    }
-    tally
-}
-
 // Every byte has a part, and its place counts.
 fn bytes_digest(block: &[u8; 512]) -> u64 {
-    let mut all = 0u64;
-    for b in block {
-        all = all.wrapping_mul(31).wrapping_add(u64::from(*b));
-    }
-    all
-}
-
-fn digest_many(entries: &[Entry], rounds: u32) -> Tally {
-    let mut tally = Tally {
-        blocks: 0,
-        digest: 0,
-    };
-    for number in 0..rounds {
-        if let Ok(block) = write_block(0, number, entries) {
-            tally = tally.add(bytes_digest(&block));
-        }
-    }
-    tally
+    block.iter().fold(
+        0u64,
+        |all, b| all.wrapping_mul(31).wrapping_add(u64::from(*b)),
+    )
 }
 
 #[derive(Clone, Copy)]
@@ -161,13 +135,19 @@ fn run(rt: &HostRuntime) -> anyhow::Result<()> {
     let blocks = some_blocks(heap, entries.as_slice())?;
     for line in rt.lines(heap) {
         let tally = match task_of(line?.as_str())? {
-            Task::Write(rounds) => write_many(entries.as_slice(), rounds),
-            Task::Read(rounds) => read_many(blocks.as_slice(), rounds),
-            Task::Bytes(rounds) => digest_many(entries.as_slice(), rounds),
+            Task::Write(rounds) => tally_of(rounds, |n| Some(sum_of(write_block(0, n, &entries)))),
+            Task::Read(rounds) => tally_of(rounds, |n| {
+                let number = n % BLOCKS;
+                let block = blocks.get(number as usize)?;
+                Some(codes_of(block, number))
+            }),
+            Task::Bytes(rounds) => tally_of(rounds, |n| {
+                write_block(0, n, &entries)
+                    .ok()
+                    .map(|block| bytes_digest(&block))
+            }),
         };
-        let done = tally.blocks;
-        let digest = tally.digest;
-        println!(rt; "{done} {digest}")?;
+        println!(rt; "{} {}", tally.blocks, tally.digest)?;
     }
     Ok(())
 }

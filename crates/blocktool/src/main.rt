@@ -12,9 +12,7 @@ use steps::run;
 fn read_script(rt: &HostRuntime) -> anyhow::Result<Script> {
     let heap = rt.alloc();
     let mut script = Script::new(heap);
-    let mut number = 0u64;
-    for text in rt.lines(heap) {
-        number = number.wrapping_add(1);
+    for (number, text) in (1..u64::MAX).zip(rt.lines(heap)) {
         if let Err(mistake) = script.take(heap, text?.as_str()) {
             return Err(anyhow!(format!(in heap; "line {number}: {mistake}")?));
         }

@@ -4,53 +4,27 @@ use base::key::{Key, Slot};
 use base::limits::LAST_EPOCH;
 use base::tid::tid_of;
 use block::entry::Entry;
-use std::alloc::{AllocError, AllocFailed, Global};
-use std::fmt;
+use std::alloc::{AllocError, Global};
 use std::num::ParseIntError;
+use thiserror::Error;
 
 // What is wrong with a line.
-#[derive(Clone, Copy)]
+#[derive(Debug, Drop, Error)]
 pub enum Mistake {
+    #[error("no such command, or too few or too many words")]
     Words,
-    Number,
+    #[error("not a number, or one out of range")]
+    Number(#[from] ParseIntError),
+    #[error("a key is `slot NUMBER` or `group TEXT`")]
     Kind,
+    #[error("a group has 1 to 16 bytes")]
     Group,
+    #[error("`block FILE NUMBER` comes first")]
     BlockFirst,
+    #[error("there is one `block` line")]
     BlockOnce,
-    Memory,
-}
-
-impl fmt::Display for Mistake {
-    fn fmt<W: fmt::Write>(&self, f: &mut fmt::Formatter<W>) -> fmt::Result {
-        let text = match self {
-            Mistake::Words => "no such command, or too few or too many words",
-            Mistake::Number => "not a number, or one out of range",
-            Mistake::Kind => "a key is `slot NUMBER` or `group TEXT`",
-            Mistake::Group => "a group has 1 to 16 bytes",
-            Mistake::BlockFirst => "`block FILE NUMBER` comes first",
-            Mistake::BlockOnce => "there is one `block` line",
-            Mistake::Memory => "no memory",
-        };
-        write!(f, "{text}")
-    }
-}
-
-impl From<ParseIntError> for Mistake {
-    fn from(_e: ParseIntError) -> Mistake {
-        Mistake::Number
-    }
-}
-
-impl From<AllocError> for Mistake {
-    fn from(_e: AllocError) -> Mistake {
-        Mistake::Memory
-    }
-}
-
-impl<T: Drop> From<AllocFailed<T>> for Mistake {
-    fn from(_e: AllocFailed<T>) -> Mistake {
-        Mistake::Memory
-    }
+    #[error("no memory")]
+    Memory(#[from(alloc)] AllocError),
 }
 
 // The place that a block is written for.
@@ -76,10 +50,9 @@ pub struct Script {
 }
 
 fn parse_group(text: &[u8]) -> Result<Key, Mistake> {
-    match Group::try_from(text) {
-        Ok(group) => Ok(Key::from(&group)),
-        Err(_) => Err(Mistake::Group),
-    }
+    Group::try_from(text)
+        .map(|group| Key::from(&group))
+        .map_err(|_| Mistake::Group)
 }
 
 fn parse_key(kind: &str, name: &str) -> Result<Key, Mistake> {

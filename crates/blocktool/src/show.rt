@@ -7,57 +7,93 @@ use base::key::Key;
 use base::tid::{epoch_of, sequence_of};
 use block::command::Command;
 use block::entry::Entry;
-use std::alloc::{AllocError, Global};
+use std::fmt;
 
-pub(crate) fn key_text(heap: Global, key: Key) -> Result<String, AllocError> {
-    let kind = key.kind;
-    let code = key.code;
-    match kind {
-        0 => format!(in heap; "slot {code}"),
-        1 => {
-            let mut text = String::from_str(heap, "group ")?;
-            for b in code.to_be_bytes() {
-                if b == 0 {
-                    break;
+// A value of another crate, as this tool prints it.
+#[derive(Clone, Copy)]
+pub(crate) struct Shown<T>(pub(crate) T);
+
+impl fmt::Display for Shown<Key> {
+    fn fmt<W: fmt::Write>(&self, f: &mut fmt::Formatter<W>) -> fmt::Result {
+        let Key { kind, code } = self.0;
+        match kind {
+            0 => write!(f, "slot {code}"),
+            1 => {
+                f.write_str("group ")?;
+                for b in code.to_be_bytes() {
+                    if b == 0 {
+                        break;
+                    }
+                    f.write_char(char::from(b))?;
                 }
-                text.push(char::from(b))?;
+                Ok(())
             }
-            Ok(text)
+            _ => write!(f, "kind {kind} code {code}"),
         }
-        _ => format!(in heap; "kind {kind} code {code}"),
     }
 }
 
-pub(crate) fn tid_text(heap: Global, tid: u64) -> Result<String, AllocError> {
-    let epoch = epoch_of(tid);
-    let sequence = sequence_of(tid);
-    format!(in heap; "epoch {epoch} sequence {sequence}")
+// A transaction by its number.
+#[derive(Clone, Copy)]
+struct Transaction(u64);
+
+impl fmt::Display for Transaction {
+    fn fmt<W: fmt::Write>(&self, f: &mut fmt::Formatter<W>) -> fmt::Result {
+        write!(
+            f,
+            "epoch {} sequence {}",
+            epoch_of(self.0),
+            sequence_of(self.0)
+        )
+    }
 }
 
-pub(crate) fn entry_text(heap: Global, entry: &Entry) -> Result<String, AllocError> {
-    match *entry {
-        Entry::Txn { tid } => {
-            let tid = tid_text(heap, tid)?;
-            format!(in heap; "TXN {tid}")
+impl fmt::Display for Shown<Entry> {
+    fn fmt<W: fmt::Write>(&self, f: &mut fmt::Formatter<W>) -> fmt::Result {
+        match self.0 {
+            Entry::Txn { tid } => write!(f, "TXN {}", Transaction(tid)),
+            Entry::Put { key, value } => write!(f, "PUT {}, {value} seconds", Shown(key)),
+            Entry::Del { key } => write!(f, "DEL {}", Shown(key)),
+            Entry::Row { tid, key, value } => {
+                write!(
+                    f,
+                    "ROW {}: {}, {value} seconds",
+                    Transaction(tid),
+                    Shown(key)
+                )
+            }
+            Entry::Gone { tid, key } => write!(f, "GONE {}: {}", Transaction(tid), Shown(key)),
         }
-        Entry::Put { key, value } => {
-            let key = key_text(heap, key)?;
-            format!(in heap; "PUT {key}, {value} seconds")
+    }
+}
+
+impl fmt::Display for Shown<BlockFault> {
+    fn fmt<W: fmt::Write>(&self, f: &mut fmt::Formatter<W>) -> fmt::Result {
+        let BlockFault { refusal, at, .. } = self.0;
+        write!(
+            f,
+            "{} {refusal:?}, layer {:?}",
+            refusal.number(),
+            BlockFault::LAYER
+        )?;
+        write!(
+            f,
+            ", file {}, block {}, byte {}, epoch {}",
+            at.file, at.block, at.byte, at.epoch
+        )
+    }
+}
+
+// Bytes in hexadecimal digits, a space in front of each.
+#[derive(Clone, Copy)]
+pub(crate) struct Hex<'a>(pub(crate) &'a [u8]);
+
+impl fmt::Display for Hex<'_> {
+    fn fmt<W: fmt::Write>(&self, f: &mut fmt::Formatter<W>) -> fmt::Result {
+        for b in self.0 {
+            write!(f, " {b:02x}")?;
         }
-        Entry::Del { key } => {
-            let key = key_text(heap, key)?;
-            format!(in heap; "DEL {key}")
-        }
-        Entry::Row { tid, key, value } => {
-            let tid = tid_text(heap, tid)?;
-            let key = key_text(heap, key)?;
-            format!(in heap; "ROW {tid}: {key}, {value} seconds")
-        }
-        Entry::Gone { tid, key } => {
-            let tid = tid_text(heap, tid)?;
-            let key = key_text(heap, key)?;
-            format!(in heap; "GONE {tid}: {key}")
-        }
+        Ok(())
     }
 }
 
@@ -72,34 +108,4 @@ pub(crate) fn place_of(command: &Command<'_>) -> usize
         Command::Row { at, .. } => at,
         Command::Gone { at, .. } => at,
     }
-}
-
-pub(crate) fn fault_text(heap: Global, fault: &BlockFault) -> Result<String, AllocError> {
-    let refusal = fault.refusal;
-    let number = refusal.number();
-    let layer = BlockFault::LAYER;
-    let file = fault.at.file;
-    let block = fault.at.block;
-    let byte = fault.at.byte;
-    let epoch = fault.at.epoch;
-    format!(in heap;
-        "{number} {refusal:?}, layer {layer:?}, file {file}, block {block}, byte {byte}, epoch {epoch}"
-    )
-}
-
-pub(crate) fn hex_text(heap: Global, bytes: &[u8]) -> Result<String, AllocError> {
-    let mut text = String::new(heap);
-    for b in bytes {
-        text.push_str(format!(in heap; " {b:02x}")?.as_str())?;
-    }
-    Ok(text)
-}
-
-pub(crate) fn all_zero(bytes: &[u8]) -> bool {
-    for b in bytes {
-        if *b != 0 {
-            return false;
-        }
-    }
-    true
 }

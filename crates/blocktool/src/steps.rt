@@ -1,6 +1,6 @@
 // The steps of the tool: write, show, read back, change.
 use crate::script::{Script, Target};
-use crate::show::{all_zero, entry_text, fault_text, hex_text, place_of};
+use crate::show::{Hex, Shown, place_of};
 use anyhow::anyhow;
 use block::command::Commands;
 use block::reader::read;
@@ -11,13 +11,10 @@ use blocktests::{damage, reseal};
 // The block in lines of 32 bytes, without the lines that are all zero.
 fn show_block(rt: &HostRuntime, block: &[u8; 512]) -> anyhow::Result<()> {
     let mut hidden = false;
-    for i in 0..16usize {
-        let at = i * 32;
-        let row = &block[at..at + 32];
-        let zero = all_zero(row);
+    for (at, row) in (0..512usize).step_by(32).zip(block.chunks(32)) {
+        let zero = row.iter().all(|b| *b == 0);
         if !zero {
-            let bytes = hex_text(rt.alloc(), row)?;
-            println!(rt; "  {at:3}:{bytes}")?;
+            println!(rt; "  {at:3}:{}", Hex(row))?;
         } else if !hidden {
             println!(rt; "  ...")?;
         }
@@ -33,8 +30,7 @@ fn show_commands(rt: &HostRuntime, mut commands: Commands<'_>) -> anyhow::Result
             break;
         };
         let at = place_of(&command);
-        let text = entry_text(rt.alloc(), &command.entry())?;
-        println!(rt; "  byte {at:3}: {text}")?;
+        println!(rt; "  byte {at:3}: {}", Shown(command.entry()))?;
     }
     Ok(())
 }
@@ -48,18 +44,14 @@ fn show_reading(
 ) -> anyhow::Result<()> {
     match read(block, target.file, target.number, marked) {
         Ok(commands) => show_commands(rt, commands),
-        Err(fault) => {
-            let text = fault_text(rt.alloc(), &fault)?;
-            println!(rt; "  fault {text}")?;
-            Ok(())
-        }
+        Err(fault) => Ok(println!(rt; "  fault {}", Shown(fault))?),
     }
 }
 
 // The first byte behind the commands, if there is one before the sum.
 fn padding_at(block: &[u8; 512]) -> Option<usize> {
     let at = COMMANDS + u16::from_be_bytes([block[2], block[3]]) as usize;
-    if at < SUM { Some(at) } else { None }
+    (at < SUM).then_some(at)
 }
 
 fn show_changes(
@@ -79,16 +71,12 @@ fn show_changes(
     show_reading(rt, &reseal(wrong), target, marked)
 }
 
-fn show_refusal(rt: &HostRuntime, error: &WriteError) -> anyhow::Result<()> {
+fn show_refusal(rt: &HostRuntime, error: WriteError) -> anyhow::Result<()> {
     match error {
         WriteError::Refused(refusal) => {
-            let number = refusal.number();
-            println!(rt; "  refused {number} {refusal:?}")?;
+            println!(rt; "  refused {} {refusal:?}", refusal.number())?;
         }
-        WriteError::Faulty(fault) => {
-            let text = fault_text(rt.alloc(), fault)?;
-            println!(rt; "  fault {text}")?;
-        }
+        WriteError::Faulty(fault) => println!(rt; "  fault {}", Shown(fault))?,
     }
     Ok(())
 }
@@ -103,7 +91,7 @@ pub(crate) fn run(rt: &HostRuntime, script: &Script) -> anyhow::Result<()> {
     let count = script.entries.len();
     println!(rt; "Writing {count} commands as block {number} of file {file}:")?;
     match write_block(file, number, script.entries.as_slice()) {
-        Err(error) => show_refusal(rt, &error),
+        Err(error) => show_refusal(rt, error),
         Ok(block) => {
             show_block(rt, &block)?;
             println!(rt; "Read back, rows up to epoch {marked}:")?;
