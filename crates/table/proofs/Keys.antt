@@ -1,5 +1,6 @@
 -- The laws of the order on keys.
-use Rattle.std.proofs.Common.{◌≡◌, true, false, refl, subst, ⊎_elim, arith}
+use Rattle.std.proofs.Common.{◌≡◌, ◌≤◌, true, false, refl, subst, ⊎_elim, Ordering, arith}
+use Rattle.std.specs.Ordering.{nat_cmp, ordering_then, ordering_index, MatchOrdering}
 use Rattle.std.proofs.lemmas.Bool.Decides.{nat_tests}
 use Rattle.std.proofs.lemmas.Bool.{and_parts, eqb-true, cases_Bool}
 use Rattle.base.specs.declared.key.Key.{Key}
@@ -57,3 +58,17 @@ ways j k =
     (λ s. let e = same_key_true j k s in here e s (subst (λ (x : Key). before j x ≡ false) e (before_irrefl j)) (subst (λ (x : Key). before x j ≡ false) e (before_irrefl j)))
     (λ n. ⊎_elim (λ b. ahead b n (before_asym j k b)) (λ b. past b n (before_other j k b n)) (cases_Bool (before j k)))
     (cases_Bool (same_key j k))
+
+-- the order that `Key` derives
+abbrev pub key_cmp : Key → Key → Ordering
+key_cmp j k = ordering_then (nat_cmp j.kind k.kind) (nat_cmp j.code k.code)
+
+-- it tells which of two keys comes before the other
+pub key_ranks : (j k : Key) (r : Ordering) → r ≡ key_cmp j k → MatchOrdering r (before j k ≡ true) (j ≡ k) (before k j ≡ true)
+unfolding before
+key_ranks j k r e = grind (arith, nat_tests)
+
+-- and rises with the key on its left
+pub key_cmp_rises : (i j k : Key) → before i j ≡ true → ordering_index (key_cmp i k) ≤ ordering_index (key_cmp j k)
+unfolding before
+key_cmp_rises i j k b = grind (arith, nat_tests)

@@ -1,6 +1,6 @@
 -- What is in a sorted list, and what holds of all that is.
 use Rattle.std.proofs.Common.{◌≡◌, ℕ, zero, suc, ◌<◌, true, cond, List, [], ◌∷◌, length, get_or, Some, refl, subst, inl, inr}
-use Rattle.std.specs.List.{slice_get, ContainsAt as Has, AllByRecursion}
+use Rattle.std.specs.List.{slice_get, Contains, AllByRecursion}
 use Rattle.std.proofs.lemmas.Option.{slice_get-get_or}
 use Rattle.std.proofs.lemmas.Bool.{and_parts, cases_Bool}
 use Rattle.base.specs.declared.key.Key.{Key}
@@ -32,8 +32,8 @@ look_nth (s ∷ ss) (suc i) r o h =
 pub look_getD : (rs : List Record) (i : ℕ) (d : Record) → sorted rs ≡ true → i < length rs → look (get_or rs i d).key rs ≡ Some (get_or rs i d)
 look_getD rs i d o lt = look_nth rs i (get_or rs i d) o (slice_get-get_or rs i d lt)
 
-pub look-has : (rs : List Record) (r : Record) → sorted rs ≡ true → Has rs r → look r.key rs ≡ Some r
-look-has rs r o h = subst (λ (x : Record). look x.key rs ≡ Some x) (h.2 r) (look_getD rs h.0 r o h.1)
+pub look-has : (rs : List Record) (r : Record) → sorted rs ≡ true → Contains rs r → look r.key rs ≡ Some r
+look-has rs r o h = subst (λ (x : Record). look x.key rs ≡ Some x) h.2 (look_getD rs h.0 r o h.1)
 
 -- what is found stands at some place
 pub nth_from_look : (k : Key) (rs : List Record) (r : Record) → look k rs ≡ Some r → (i : ℕ) × (slice_get rs i ≡ Some r)

@@ -1,5 +1,6 @@
 -- A walk: the record that comes next is the least behind the key reached.
 use Rattle.std.proofs.Common.{◌≡◌, true, false, List, [], ◌∷◌, Some, None, Option, sym, refl, ap, ◌∙◌, subst, inl, inr}
+use Rattle.std.specs.List.{slice_get}
 use Rattle.std.proofs.lemmas.Bool.{and_parts, cases_Bool, both_ways}
 use Rattle.base.specs.declared.key.Key.{Key}
 use Rattle.table.specs.declared.record.Record.{Record}
@@ -16,6 +17,12 @@ behind_none k = refl
 pub behind_some : (j k : Key) → behind (Some j) k ≡ before j k
 unfolding behind
 behind_some j k = refl
+
+-- a walk begins at the first record
+pub next_first : (rs : List Record) → next_behind None rs ≡ slice_get rs 0
+unfolding next_behind behind
+next_first [] = refl
+next_first (r ∷ rs) = refl
 
 -- what is behind a place stays so farther on
 pub behind_trans : (o : Option Key) (j k : Key) → behind o j ≡ true → before j k ≡ true → behind o k ≡ true

@@ -1,9 +1,8 @@
 // What a table does.
 ghost use Rattle.std.specs.Prelude.{◌≡◌, [], length, IfOk};
 ghost use Rattle.std.specs.List.{slice_get};
-ghost use Rattle.table.specs.Order.{before};
 ghost use Rattle.table.specs.Places.{Placed};
-ghost use Rattle.table.specs.Records.{look, take_out, next_behind, rank};
+ghost use Rattle.table.specs.Records.{look, take_out, next_behind};
 ghost use Rattle.table.specs.View.{view, put_answer, put_after};
 
 use crate::Table;
@@ -12,28 +11,6 @@ use base::key::Key;
 use base::limits::MAX_RECORDS;
 use base::refusal::Refusal;
 use std::alloc::{AllocError, Global};
-
-// Where a key stands in a table, or where it would be put.
-enum Place {
-    Found(usize),
-    Missing(usize),
-}
-
-fn comes_before(a: Key, b: Key) -> bool
-    ensures { result ≡ before a b }
-{
-    a.kind < b.kind || (a.kind == b.kind && a.code < b.code)
-}
-
-fn item_at(records: &[Record], index: usize) -> Option<Record>
-    ensures { result ≡ slice_get records.now index }
-{
-    if index < records.len() {
-        Some(records[index])
-    } else {
-        None
-    }
-}
 
 impl Table {
     // Gets all the memory that the table will ever use.
@@ -53,43 +30,22 @@ impl Table {
     pub fn record_at(&self, index: usize) -> Option<Record>
         ensures { result ≡ slice_get (view self.now) index }
     {
-        item_at(&self.records, index)
+        self.records.get(index).copied()
     }
 
-    // How many records come before a key, by halving.
-    fn rank(&self, key: Key) -> usize
-        ensures { result ≡ rank key (view self.now) }
-    {
-        let mut low = 0;
-        let mut high = self.len();
-        while low < high {
-            let middle = low + (high - low) / 2;
-            if comes_before(self.records[middle].key, key) {
-                low = middle + 1;
-            } else {
-                high = middle;
-            }
-        }
-        low
-    }
-
-    fn search(&self, key: Key) -> Place
+    // Where a key stands, or where it would be put.
+    fn search(&self, key: Key) -> Result<usize, usize>
         ensures { Placed key (view self.now) result }
     {
-        let at = self.rank(key);
-        if at < self.len() && self.records[at].key == key {
-            Place::Found(at)
-        } else {
-            Place::Missing(at)
-        }
+        self.records.binary_search_by_key(&key, |record| record.key)
     }
 
     pub fn find(&self, key: Key) -> Option<Record>
         ensures { result ≡ look key (view self.now) }
     {
         match self.search(key) {
-            Place::Found(at) => Some(self.records[at]),
-            Place::Missing(_) => None,
+            Ok(at) => Some(self.records[at]),
+            Err(_) => None,
         }
     }
 
@@ -100,8 +56,8 @@ impl Table {
         match key {
             None => self.record_at(0),
             Some(last) => match self.search(last) {
-                Place::Found(at) => self.record_at(at + 1),
-                Place::Missing(at) => self.record_at(at),
+                Ok(at) => self.record_at(at + 1),
+                Err(at) => self.record_at(at),
             },
         }
     }
@@ -112,8 +68,8 @@ impl Table {
         ensures after { view self.new ≡ put_after fresh (view self.old) }
     {
         match self.search(fresh.key) {
-            Place::Found(at) => self.records[at] = fresh,
-            Place::Missing(at) => {
+            Ok(at) => self.records[at] = fresh,
+            Err(at) => {
                 if self.len() >= MAX_RECORDS {
                     return Err(Refusal::TableFull);
                 }
@@ -129,8 +85,8 @@ impl Table {
         ensures after { view self.new ≡ take_out key (view self.old) }
     {
         match self.search(key) {
-            Place::Found(at) => Some(self.records.remove(at)),
-            Place::Missing(_) => None,
+            Ok(at) => Some(self.records.remove(at)),
+            Err(_) => None,
         }
     }
 

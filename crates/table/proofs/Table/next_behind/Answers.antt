@@ -2,7 +2,7 @@ use Rattle.std.proofs.Common.{Option, sym, ap, ◌∙◌}
 use Rattle.base.specs.declared.key.Key.{Key}
 use Rattle.table.specs.Records.{next_behind}
 use Rattle.table.specs.View.{view}
-use Rattle.table.proofs.Ranks.{next_first}
+use Rattle.table.proofs.Nexts.{next_first}
 use Rattle.table.proofs.Table.next_behind.Goals as goal
 
 pub returns-in-None : goal.returns-in-None
