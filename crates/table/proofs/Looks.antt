@@ -1,5 +1,6 @@
 -- What a look-up finds, before and after a change.
-use Rattle.std.proofs.Common.{◌≡◌, ℕ, true, false, cond, not, ◌&&◌, ◌||◌, List, [], ◌∷◌, is_some, Some, None, sym, refl, ap, ◌∙◌, subst, inl, inr, arith}
+use Rattle.std.proofs.Common.{◌≡◌, true, false, cond, not, ◌&&◌, ◌||◌, List, [], ◌∷◌, is_some, Some, None, sym, refl, ap, ◌∙◌, subst, inl, inr}
+use Rattle.std.proofs.lemmas.Option.{none-some}
 use Rattle.std.proofs.lemmas.Bool.{and_parts, and_from, or_parts, cases_Bool, false≢true}
 use Rattle.base.specs.declared.key.Key.{Key}
 use Rattle.table.specs.declared.record.Record.{Record}
@@ -84,13 +85,10 @@ look-found k (r ∷ rs) h =
       | inr n ↦ let f = look-found k rs (simp n at h) in (f.0, simp n f.1)
     ]
 
-pub none_some : {X : Type 0} (x : X) → None ≡ Some x → ⊥
-none_some x h = let z : ◌≡◌ {A = ℕ} 0 1 = cc in omega arith
-
 -- what is found under a key has that key
 pub look-key : (k : Key) (rs : List Record) (r : Record) → look k rs ≡ Some r → r.key ≡ k
 unfolding look
-look-key k [] r h = absurd (none_some r h)
+look-key k [] r h = absurd (none-some r h)
 look-key k (s ∷ ss) r h =
     elim (cases_Bool (same_key s.key k)) [
       | inl y ↦ let f : Some s ≡ Some r = simp y at h in let e : s ≡ r = cc in ap (λ (x : Record). x.key) (sym e) ∙ same_key_true s.key k y

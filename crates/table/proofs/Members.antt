@@ -1,18 +1,18 @@
 -- What is in a sorted list, and what holds of all that is.
 use Rattle.std.proofs.Common.{◌≡◌, ℕ, zero, suc, ◌<◌, true, cond, List, [], ◌∷◌, length, get_or, Some, refl, subst, inl, inr}
 use Rattle.std.specs.List.{slice_get, Contains, AllByRecursion}
-use Rattle.std.proofs.lemmas.Option.{slice_get-get_or}
+use Rattle.std.proofs.lemmas.Option.{slice_get-get_or, none-some}
 use Rattle.std.proofs.lemmas.Bool.{and_parts, cases_Bool}
 use Rattle.base.specs.declared.key.Key.{Key}
 use Rattle.table.specs.declared.record.Record.{Record}
 use Rattle.table.specs.Order.{before, same_key, all_behind, sorted}
 use Rattle.table.specs.Records.{look, put, take_out}
 use Rattle.table.proofs.Keys.{same_key_refl, before_apart, ahead, here, past, ways}
-use Rattle.table.proofs.Looks.{sorted_head, sorted_tail, none_some}
+use Rattle.table.proofs.Looks.{sorted_head, sorted_tail}
 
 nth_behind : (k : Key) (rs : List Record) (i : ℕ) (r : Record) → all_behind k rs ≡ true → slice_get rs i ≡ Some r → before k r.key ≡ true
 unfolding all_behind
-nth_behind k [] i r a h = absurd (none_some r h)
+nth_behind k [] i r a h = absurd (none-some r h)
 nth_behind k (s ∷ ss) zero r a h = let e : s ≡ r = cc in subst (λ (x : Record). before k x.key ≡ true) e (and_parts _ _ a).0
 nth_behind k (s ∷ ss) (suc i) r a h = nth_behind k ss i r (and_parts _ _ a).1 h
 
@@ -23,7 +23,7 @@ all_from_nth P (r ∷ rs) h = (h 0 r refl, all_from_nth P rs (λ i s e. h (suc i
 -- a record of a sorted list is found under its key
 pub look_nth : (rs : List Record) (i : ℕ) (r : Record) → sorted rs ≡ true → slice_get rs i ≡ Some r → look r.key rs ≡ Some r
 unfolding look
-look_nth [] i r o h = absurd (none_some r h)
+look_nth [] i r o h = absurd (none-some r h)
 look_nth (s ∷ ss) zero r o h = let e : s ≡ r = cc in subst (λ (x : Record). cond (same_key s.key x.key) (Some s) (look x.key ss) ≡ Some x) e (simp same_key_refl)
 look_nth (s ∷ ss) (suc i) r o h =
     let n = before_apart s.key r.key (nth_behind s.key ss i r (sorted_head s ss o) h) in
@@ -38,7 +38,7 @@ look-has rs r o h = subst (λ (x : Record). look x.key rs ≡ Some x) h.2 (look_
 -- what is found stands at some place
 pub nth_from_look : (k : Key) (rs : List Record) (r : Record) → look k rs ≡ Some r → (i : ℕ) × (slice_get rs i ≡ Some r)
 unfolding look
-nth_from_look k [] r h = absurd (none_some r h)
+nth_from_look k [] r h = absurd (none-some r h)
 nth_from_look k (s ∷ ss) r h =
     elim (cases_Bool (same_key s.key k)) [
       | inl y ↦ (0, simp y at h)
@@ -48,7 +48,7 @@ nth_from_look k (s ∷ ss) r h =
 module _ (P : Record → Type 0) where
   pub all_look : (k : Key) (rs : List Record) (r : Record) → AllByRecursion P rs → look k rs ≡ Some r → P r
   unfolding look
-  all_look k [] r a h = absurd (none_some r h)
+  all_look k [] r a h = absurd (none-some r h)
   all_look k (s ∷ ss) r a h =
       elim (cases_Bool (same_key s.key k)) [
         | inl y ↦ let f : Some s ≡ Some r = simp y at h in let e : s ≡ r = cc in subst P e a.0

@@ -1,13 +1,14 @@
 -- A walk: the record that comes next is the least behind the key reached.
 use Rattle.std.proofs.Common.{◌≡◌, true, false, List, [], ◌∷◌, Some, None, Option, sym, refl, ap, ◌∙◌, subst, inl, inr}
 use Rattle.std.specs.List.{slice_get}
+use Rattle.std.proofs.lemmas.Option.{none-some}
 use Rattle.std.proofs.lemmas.Bool.{and_parts, cases_Bool, both_ways}
 use Rattle.base.specs.declared.key.Key.{Key}
 use Rattle.table.specs.declared.record.Record.{Record}
 use Rattle.table.specs.Order.{before, same_key, behind, all_behind, sorted}
 use Rattle.table.specs.Records.{look, put, next_behind, still_behind}
 use Rattle.table.proofs.Keys.{same_key_refl, same_key_true, same_key_false, before_irrefl, before_trans, before_asym, before_apart, ahead, here, past, ways}
-use Rattle.table.proofs.Looks.{sorted_head, sorted_tail, look-put_other, look-behind, none_some}
+use Rattle.table.proofs.Looks.{sorted_head, sorted_tail, look-put_other, look-behind}
 use Rattle.table.proofs.Shapes.{sorted-put, first_before, rest_behind, here_behind}
 
 pub behind_none : (k : Key) → behind None k ≡ true
@@ -40,7 +41,7 @@ unfolding next_behind look
 next_none o [] h k b = refl
 next_none o (r ∷ rs) h k b =
     elim (cases_Bool (behind o r.key)) [
-      | inl y ↦ absurd (none_some r (sym h ∙ simp y))
+      | inl y ↦ absurd (none-some r (sym h ∙ simp y))
       | inr n ↦ elim (cases_Bool (same_key r.key k)) [
         | inl y ↦ absurd (both_ways _ n (subst (λ (x : Key). behind o x ≡ true) (sym (same_key_true r.key k y)) b))
         | inr d ↦ simp d (next_none o rs (simp n at h) k b)
@@ -52,7 +53,7 @@ tail_none : (k : Key) (r : Record) (rs : List Record) → look k (r ∷ rs) ≡ 
 unfolding look
 tail_none k r rs h =
     elim (cases_Bool (same_key r.key k)) [
-      | inl y ↦ absurd (none_some r (sym h ∙ simp y))
+      | inl y ↦ absurd (none-some r (sym h ∙ simp y))
       | inr n ↦ simp n at h
     ]
 
@@ -61,7 +62,7 @@ unfolding next_behind
 next_from_none o [] h = refl
 next_from_none o (r ∷ rs) h =
     elim (cases_Bool (behind o r.key)) [
-      | inl y ↦ absurd (none_some r (sym (h r.key y) ∙ look_head r rs))
+      | inl y ↦ absurd (none-some r (sym (h r.key y) ∙ look_head r rs))
       | inr n ↦ simp n (next_from_none o rs (λ k b. tail_none k r rs (h k b)))
     ]
 
@@ -76,8 +77,8 @@ tail_some : (k : Key) (s r : Record) (rs : List Record) → sorted (s ∷ rs) �
 tail_some k s r rs o h =
     elim (ways s.key k) [
       | ahead b n a ↦ b
-      | here e y b a ↦ absurd (none_some r (sym (look-behind k rs (here_behind k s rs e o)) ∙ h))
-      | past b n a ↦ absurd (none_some r (sym (look-behind k rs (rest_behind k s rs a o)) ∙ h))
+      | here e y b a ↦ absurd (none-some r (sym (look-behind k rs (here_behind k s rs e o)) ∙ h))
+      | past b n a ↦ absurd (none-some r (sym (look-behind k rs (rest_behind k s rs a o)) ∙ h))
     ]
 
 look_past : (k : Key) (s r : Record) (rs : List Record) → sorted (s ∷ rs) ≡ true → look k rs ≡ Some r → look k (s ∷ rs) ≡ Some r
@@ -95,7 +96,7 @@ skip o k s rs n b h =
 
 pub next_some : (o : Option Key) (rs : List Record) (r : Record) → sorted rs ≡ true → next_behind o rs ≡ Some r → Next o rs r
 unfolding next_behind
-next_some o [] r u h = absurd (none_some r h)
+next_some o [] r u h = absurd (none-some r h)
 next_some o (s ∷ rs) r u h =
     elim (cases_Bool (behind o s.key)) [
       | inl y ↦
@@ -111,13 +112,13 @@ pub next_from_some : (o : Option Key) (rs : List Record) (r : Record) → sorted
 next_from_some o rs r u n = settled (next_behind o rs) refl
   where
     settled : (x : Option Record) → next_behind o rs ≡ x → x ≡ Some r
-    settled None h = absurd (none_some r (sym (next_none o rs h r.key n.farther) ∙ n.there))
+    settled None h = absurd (none-some r (sym (next_none o rs h r.key n.farther) ∙ n.there))
     settled (Some s) h =
         let t = next_some o rs s u h in
         elim (ways s.key r.key) [
-          | ahead b d a ↦ absurd (none_some s (sym (n.least s.key t.farther b) ∙ t.there))
+          | ahead b d a ↦ absurd (none-some s (sym (n.least s.key t.farther b) ∙ t.there))
           | here e y b a ↦ sym t.there ∙ ap (λ (k : Key). look k rs) e ∙ n.there
-          | past b d a ↦ absurd (none_some r (sym (t.least r.key n.farther a) ∙ n.there))
+          | past b d a ↦ absurd (none-some r (sym (t.least r.key n.farther a) ∙ n.there))
         ]
 
 -- a change of a record that the walk has passed does not change what comes next
@@ -150,7 +151,7 @@ still_all (r ∷ rs) = let y = behind_none r.key in simp y (ap (λ (x : List Rec
 
 pub still_next : (o : Option Key) (rs : List Record) (r : Record) → sorted rs ≡ true → next_behind o rs ≡ Some r → still_behind o rs ≡ r ∷ still_behind (Some r.key) rs
 unfolding still_behind next_behind
-still_next o [] r u h = absurd (none_some r h)
+still_next o [] r u h = absurd (none-some r h)
 still_next o (s ∷ rs) r u h =
     elim (cases_Bool (behind o s.key)) [
       | inl y ↦
@@ -173,6 +174,6 @@ unfolding still_behind next_behind
 still_none o [] h = refl
 still_none o (s ∷ rs) h =
     elim (cases_Bool (behind o s.key)) [
-      | inl y ↦ absurd (none_some s (sym h ∙ simp y))
+      | inl y ↦ absurd (none-some s (sym h ∙ simp y))
       | inr n ↦ simp n (still_none o rs (simp n at h))
     ]

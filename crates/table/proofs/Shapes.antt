@@ -1,12 +1,13 @@
 -- The order and the length of a list of records after a change, and when two lists are equal.
 use Rattle.std.proofs.Common.{◌≡◌, suc, ◌+◌, true, false, List, [], ◌∷◌, length, Some, sym, refl, ap, ◌∙◌, subst, inl, inr, arith}
+use Rattle.std.proofs.lemmas.Option.{none-some}
 use Rattle.std.proofs.lemmas.Bool.{and_parts, and_from, or_parts, cases_Bool, false≢true, both_ways}
 use Rattle.base.specs.declared.key.Key.{Key}
 use Rattle.table.specs.declared.record.Record.{Record}
 use Rattle.table.specs.Order.{before, same_key, all_behind, sorted}
 use Rattle.table.specs.Records.{look, has, put, take_out}
 use Rattle.table.proofs.Keys.{same_key_refl, same_key_true, ahead, here, past, ways}
-use Rattle.table.proofs.Looks.{sorted_head, sorted_tail, all_behind-before, look-behind, has-behind, none_some}
+use Rattle.table.proofs.Looks.{sorted_head, sorted_tail, all_behind-before, look-behind, has-behind}
 
 pub sorted-nil : sorted [] ≡ true
 sorted-nil = refl
@@ -136,7 +137,7 @@ same_tails r rs ss o u h k =
 
 -- a first record whose key is before all of another list is not found there
 not_there : (r : Record) (rs ss : List Record) → all_behind r.key ss ≡ true → ((k : Key) → look k (r ∷ rs) ≡ look k ss) → ⊥
-not_there r rs ss b h = none_some r (sym (look-behind r.key ss b) ∙ sym (h r.key) ∙ look_first r rs)
+not_there r rs ss b h = none-some r (sym (look-behind r.key ss b) ∙ sym (h r.key) ∙ look_first r rs)
 
 -- two sorted lists in which every look-up finds the same are equal
 pub same_from_look : (rs ss : List Record) → sorted rs ≡ true → sorted ss ≡ true → ((k : Key) → look k rs ≡ look k ss) → rs ≡ ss

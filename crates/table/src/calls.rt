@@ -50,6 +50,7 @@ impl Table {
     }
 
     // The first record behind a key, or the first of all: by this a walk goes on from the key that it reached.
+    #[tactic(auto, using(crate::proofs::Nexts::next_first))]
     pub fn next_behind(&self, key: Option<Key>) -> Option<Record>
         ensures { result ≡ next_behind key (view self.now) }
     {
@@ -69,11 +70,9 @@ impl Table {
     {
         match self.search(fresh.key) {
             Ok(at) => self.records[at] = fresh,
+            Err(_) if self.len() >= MAX_RECORDS => return Err(Refusal::TableFull),
+            // The memory is there since `new`, so this is never refused.
             Err(at) => {
-                if self.len() >= MAX_RECORDS {
-                    return Err(Refusal::TableFull);
-                }
-                // The memory is there since `new`, so this is never refused.
                 let _ = self.records.insert(at, fresh);
             }
         }
