@@ -2,7 +2,7 @@
 use Rattle.std.proofs.Common.{◌≡◌, ◌≤◌, true, false, refl, subst, ⊎_elim, Ordering, arith}
 use Rattle.std.specs.Ordering.{nat_cmp, ordering_then, ordering_index, MatchOrdering}
 use Rattle.std.proofs.lemmas.Bool.Decides.{nat_tests}
-use Rattle.std.proofs.lemmas.Bool.{and_parts, eqb-true, cases_Bool}
+use Rattle.std.proofs.lemmas.Bool.{cases_Bool}
 use Rattle.base.specs.declared.key.Key.{Key}
 use Rattle.table.specs.Order.{before, same_key}
 
@@ -16,11 +16,7 @@ same_key_sym j k = grind (arith, nat_tests)
 
 pub same_key_true : (j k : Key) → same_key j k ≡ true → j ≡ k
 unfolding same_key
-same_key_true j k e =
-    let p = and_parts _ _ e in
-    let x = eqb-true _ _ p.0 in
-    let y = eqb-true _ _ p.1 in
-    λ i. record { kind = x i; code = y i }
+same_key_true j k e = grind (arith, nat_tests)
 
 pub same_key_false : (j k : Key) → (j ≡ k → ⊥) → same_key j k ≡ false
 same_key_false j k ne = elim (same_key j k) as (λ v. (same_key j k ≡ v → v ≡ false)) [ true ↦ λ e. absurd (ne (same_key_true j k e)) | false ↦ λ e. refl ] refl

@@ -10,7 +10,8 @@ use Rattle.table.specs.Records.{look, put, take_out}
 use Rattle.table.proofs.Keys.{same_key_refl, before_apart, ahead, here, past, ways}
 use Rattle.table.proofs.Looks.{sorted_head, sorted_tail}
 
-nth_behind : (k : Key) (rs : List Record) (i : ℕ) (r : Record) → all_behind k rs ≡ true → slice_get rs i ≡ Some r → before k r.key ≡ true
+-- a record of a list that is behind a key is behind it
+pub nth_behind : (k : Key) (rs : List Record) (i : ℕ) (r : Record) → all_behind k rs ≡ true → slice_get rs i ≡ Some r → before k r.key ≡ true
 unfolding all_behind
 nth_behind k [] i r a h = absurd (none-some r h)
 nth_behind k (s ∷ ss) zero r a h = let e : s ≡ r = cc in subst (λ (x : Record). before k x.key ≡ true) e (and_parts _ _ a).0

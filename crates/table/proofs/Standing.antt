@@ -1,9 +1,10 @@
 -- The place of a key, as a binary search leaves it.
 use Rattle.std.proofs.Common.{◌≡◌, ℕ, zero, suc, ◌<◌, ◌≤◌, true, false, List, [], ◌∷◌, length, get_or, set, Some, Result, Ok, Err, sym, refl, ap, ◌∙◌, inl, inr, add-one, arith}
 use Rattle.std.specs.List.{slice_get, insert, remove}
-use Rattle.std.specs.List.Sorted.{IsSearchInRange, IsBinarySearchResult, IsNonDecreasingBy}
+use Rattle.std.specs.List.Sorted.{IsSearchInRange, IsBinarySearchResult, IsNonDecreasingBy, IsPartitionPoint}
 use Rattle.std.specs.Ordering.{ordering_index}
 use Rattle.std.proofs.lemmas.Bool.{and_parts, cases_lt}
+use Rattle.std.proofs.lemmas.Option.{slice_get-get_or}
 use Rattle.base.specs.declared.key.Key.{Key}
 use Rattle.table.specs.declared.record.Record.{Record}
 use Rattle.table.specs.Order.{before, same_key, behind, all_behind, sorted}
@@ -11,13 +12,11 @@ use Rattle.table.specs.Records.{look, has, put, take_out, next_behind}
 use Rattle.table.specs.Places.{Stands, Lacks, Placed}
 use Rattle.table.proofs.Keys.{key_cmp, key_ranks, key_cmp_rises, same_key_refl, same_key_sym, before_irrefl, before_apart, before_asym}
 use Rattle.table.proofs.Looks.{sorted_head, sorted_tail, has-behind, look_missing}
+use Rattle.table.proofs.Members.{nth_behind}
 use Rattle.table.proofs.Shapes.{sorted-put, sorted-take_out, here_behind, first_before, take_out_missing}
 
 behind_at : (k : Key) (rs : List Record) (i : ℕ) (d : Record) → i < length rs → all_behind k rs ≡ true → before k (get_or rs i d).key ≡ true
-unfolding all_behind
-behind_at k [] i d lt h = absurd (omega arith)
-behind_at k (r ∷ rs) zero d lt h = (and_parts _ _ h).0
-behind_at k (r ∷ rs) (suc i) d lt h = behind_at k rs i d (omega arith) (and_parts _ _ h).1
+behind_at k rs i d lt h = nth_behind k rs i (get_or rs i d) h (slice_get-get_or rs i d lt)
 
 -- in a sorted list each record comes before every later one
 earlier_before : (rs : List Record) (i j : ℕ) (d : Record) → sorted rs ≡ true → i < j → j < length rs → before (get_or rs i d).key (get_or rs j d).key ≡ true
@@ -68,11 +67,9 @@ module _ (k : Key) where
         still_taken = ap sorted out_is ∙ sorted-take_out k (s ∷ ss) o;
       }
 
-  abbrev AllBefore : List Record → ℕ → Type 0
-  AllBefore rs i = (j : ℕ) (d : Record) → 0 ≤ j → j < i → before (get_or rs j d).key k ≡ true
-
-  abbrev AllBehind : List Record → ℕ → Type 0
-  AllBehind rs i = (j : ℕ) (d : Record) → i ≤ j → j < length rs → before k (get_or rs j d).key ≡ true
+  -- a place that has all before k on its left and all behind k on its right
+  abbrev IsGap : List Record → ℕ → Type 0
+  IsGap rs i = IsPartitionPoint (λ (x : Record). before x.key k ≡ true) (λ (x : Record). before k x.key ≡ true) rs i
 
   gap : (rs : List Record) (i : ℕ) → sorted rs ≡ true → i ≤ length rs → has k rs ≡ false → slice_get rs i ≡ next_behind (Some k) rs → ((r : Record) → r.key ≡ k → insert rs i r ≡ put r rs) → Lacks k rs i
   gap rs i o le none next put_is =
@@ -86,18 +83,19 @@ module _ (k : Key) where
         still_added = λ r e. ap sorted (put_is r e) ∙ sorted-put r rs o;
       }
 
-  lacks : (rs : List Record) (i : ℕ) → sorted rs ≡ true → i ≤ length rs → AllBefore rs i → AllBehind rs i → Lacks k rs i
+  lacks : (rs : List Record) (i : ℕ) → sorted rs ≡ true → i ≤ length rs → IsGap rs i → Lacks k rs i
   unfolding has look put take_out next_behind behind
-  lacks [] zero o le front back = gap [] 0 o le refl refl (λ r e. refl)
-  lacks [] (suc i) o le front back = absurd (omega arith)
-  lacks (s ∷ ss) zero o le front back =
-      let b = back 0 s (omega arith) (omega arith) in
+  lacks [] zero o le parted = gap [] 0 o le refl refl (λ r e. refl)
+  lacks [] (suc i) o le parted = absurd (omega arith)
+  lacks (s ∷ ss) zero o le parted =
+      let b = parted.1 0 s (omega arith) (omega arith) in
       let h = first_before k s ss b o in
       let n = same_key_sym s.key k ∙ before_apart k s.key b in
       gap (s ∷ ss) 0 o le (has-behind k (s ∷ ss) h) (next_in_tail (s ∷ ss) h) (λ r e. simp (e, n, b))
-  lacks (s ∷ ss) (suc i) o le front back =
-      let t = lacks ss i (sorted_tail s ss o) (omega arith) (λ j d l u. front (suc j) d (omega arith) (omega arith)) (λ j d l u. back (suc j) d (omega arith) (omega arith)) in
-      let b = front 0 s (omega arith) (omega arith) in
+  lacks (s ∷ ss) (suc i) o le parted =
+      let tail : IsGap ss i = (λ j d l u. parted.0 (suc j) d (omega arith) (omega arith), λ j d l u. parted.1 (suc j) d (omega arith) (omega arith)) in
+      let t = lacks ss i (sorted_tail s ss o) (omega arith) tail in
+      let b = parted.0 0 s (omega arith) (omega arith) in
       let n = before_apart s.key k b in
       let a = before_asym s.key k b in
       gap (s ∷ ss) (suc i) o le (simp n t.absent) (simp a t.next) (λ r e. simp (e, n, a) (ap (λ (x : List Record). s ∷ x) (t.added r e)))
@@ -114,4 +112,4 @@ module _ (k : Key) where
   searched rs (Ok i) o lt at = stands rs i o lt (λ d. key_ranks _ _ _ (sym (at d)))
   searched rs (Err i) o le parted =
       let split = parted (rises rs o) in
-      lacks rs i o le (λ j d l u. key_ranks _ _ _ (sym (split.0 j d l u))) (λ j d l u. key_ranks _ _ _ (sym (split.1 j d l u)))
+      lacks rs i o le (λ j d l u. key_ranks _ _ _ (sym (split.0 j d l u)), λ j d l u. key_ranks _ _ _ (sym (split.1 j d l u)))

@@ -1,19 +1,12 @@
--- What holds of every table, and of what a put leaves.
+-- What a put answers and leaves.
 use Rattle.std.proofs.Common.{◌≡◌, ◌<◌, ◌≤◌, true, false, ltb, List, length, is_ok, sym, ◌∙◌, inl, inr, arith}
 use Rattle.std.proofs.lemmas.Bool.{cases_Bool, cond-true, cond-false, lt-ltb, ltb-true, ltb-false, or_left, or_right, or_parts}
 use Rattle.base.specs.declared.key.Key.{Key}
-use Rattle.table.specs.declared.Table.{Table}
 use Rattle.table.specs.declared.record.Record.{Record}
 use Rattle.table.specs.Order.{sorted, most_records}
 use Rattle.table.specs.Records.{has, put}
-use Rattle.table.specs.View.{view, room_for, put_answer, put_after}
+use Rattle.table.specs.View.{room_for, put_answer, put_after}
 use Rattle.table.proofs.Shapes.{sorted-put, length-put-has, length-put_new}
-
-pub view-sorted : (t : Table) → sorted (view t) ≡ true
-view-sorted t = t.ordered
-
-pub view_few : (t : Table) → length (view t) ≤ most_records
-view_few t = omega (arith, t.few, t.records.ok.0)
 
 pub sorted-put_after : (r : Record) (rs : List Record) → sorted rs ≡ true → sorted (put_after r rs) ≡ true
 sorted-put_after r rs o = elim (cases_Bool (room_for r.key rs)) [ inl y ↦ simp y (sorted-put r rs o) | inr n ↦ simp n o ]

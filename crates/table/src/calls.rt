@@ -3,7 +3,7 @@ ghost use Rattle.std.specs.Prelude.{◌≡◌, [], length, IfOk};
 ghost use Rattle.std.specs.List.{slice_get};
 ghost use Rattle.table.specs.Places.{Placed};
 ghost use Rattle.table.specs.Records.{look, take_out, next_behind};
-ghost use Rattle.table.specs.View.{view, put_answer, put_after};
+ghost use Rattle.table.specs.View.{put_answer, put_after};
 
 use crate::Table;
 use crate::record::Record;
@@ -15,33 +15,33 @@ use std::alloc::{AllocError, Global};
 impl Table {
     // Gets all the memory that the table will ever use.
     pub fn new(heap: Global) -> Result<Table, AllocError>
-        ensures { IfOk result (λ t. view t ≡ []) }
+        ensures { IfOk result (λ t. t.records ≡ []) }
     {
         let records = Vec::with_capacity(heap, MAX_RECORDS)?;
         Ok(Table { records })
     }
 
     pub fn len(&self) -> usize
-        ensures { result ≡ length (view self.now) }
+        ensures { result ≡ length self.now.records }
     {
         self.records.len()
     }
 
     pub fn record_at(&self, index: usize) -> Option<Record>
-        ensures { result ≡ slice_get (view self.now) index }
+        ensures { result ≡ slice_get self.now.records index }
     {
         self.records.get(index).copied()
     }
 
     // Where a key stands, or where it would be put.
     fn search(&self, key: Key) -> Result<usize, usize>
-        ensures { Placed key (view self.now) result }
+        ensures { Placed key self.now.records result }
     {
         self.records.binary_search_by_key(&key, |record| record.key)
     }
 
     pub fn find(&self, key: Key) -> Option<Record>
-        ensures { result ≡ look key (view self.now) }
+        ensures { result ≡ look key self.now.records }
     {
         match self.search(key) {
             Ok(at) => Some(self.records[at]),
@@ -52,7 +52,7 @@ impl Table {
     // The first record behind a key, or the first of all: by this a walk goes on from the key that it reached.
     #[tactic(auto, using(crate::proofs::Nexts::next_first))]
     pub fn next_behind(&self, key: Option<Key>) -> Option<Record>
-        ensures { result ≡ next_behind key (view self.now) }
+        ensures { result ≡ next_behind key self.now.records }
     {
         match key {
             None => self.record_at(0),
@@ -65,8 +65,8 @@ impl Table {
 
     // Refused only if the key is new and the table is full.
     pub fn put(&mut self, fresh: Record) -> Result<(), Refusal>
-        ensures answer { result ≡ put_answer fresh (view self.old) }
-        ensures after { view self.new ≡ put_after fresh (view self.old) }
+        ensures answer { result ≡ put_answer fresh self.old.records }
+        ensures after { self.new.records ≡ put_after fresh self.old.records }
     {
         match self.search(fresh.key) {
             Ok(at) => self.records[at] = fresh,
@@ -80,8 +80,8 @@ impl Table {
     }
 
     pub fn remove(&mut self, key: Key) -> Option<Record>
-        ensures answer { result ≡ look key (view self.old) }
-        ensures after { view self.new ≡ take_out key (view self.old) }
+        ensures answer { result ≡ look key self.old.records }
+        ensures after { self.new.records ≡ take_out key self.old.records }
     {
         match self.search(key) {
             Ok(at) => Some(self.records.remove(at)),
@@ -90,7 +90,7 @@ impl Table {
     }
 
     pub fn clear(&mut self)
-        ensures { view self.new ≡ [] }
+        ensures { self.new.records ≡ [] }
     {
         self.records.clear();
     }
