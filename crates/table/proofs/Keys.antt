@@ -1,8 +1,9 @@
 -- The laws of the order on keys.
-use Rattle.std.proofs.Common.{◌≡◌, ◌≤◌, true, false, refl, subst, ⊎_elim, Ordering, arith}
+use Rattle.std.proofs.Common.{◌≡◌, ◌≤◌, true, false, Ordering, arith}
 use Rattle.std.specs.Ordering.{nat_cmp, ordering_then, ordering_index, MatchOrdering}
 use Rattle.std.proofs.lemmas.Bool.Decides.{nat_tests}
 use Rattle.std.proofs.lemmas.Bool.{cases_Bool}
+use Rattle.std.proofs.lemmas.Grind.{common_steps}
 use Rattle.base.specs.declared.key.Key.{Key}
 use Rattle.table.specs.Order.{before, same_key}
 
@@ -19,7 +20,7 @@ unfolding same_key
 same_key_true j k e = grind (arith, nat_tests)
 
 pub same_key_false : (j k : Key) → (j ≡ k → ⊥) → same_key j k ≡ false
-same_key_false j k ne = elim (same_key j k) as (λ v. (same_key j k ≡ v → v ≡ false)) [ true ↦ λ e. absurd (ne (same_key_true j k e)) | false ↦ λ e. refl ] refl
+same_key_false j k ne = grind (arith, common_steps, same_key_true)
 
 pub before_irrefl : (k : Key) → before k k ≡ false
 unfolding before
@@ -49,11 +50,7 @@ pub data Way (j k : Key) : Type 0 where
   past : before j k ≡ false → same_key j k ≡ false → before k j ≡ true → Way j k
 
 pub ways : (j k : Key) → Way j k
-ways j k =
-    ⊎_elim
-    (λ s. let e = same_key_true j k s in here e s (subst (λ (x : Key). before j x ≡ false) e (before_irrefl j)) (subst (λ (x : Key). before x j ≡ false) e (before_irrefl j)))
-    (λ n. ⊎_elim (λ b. ahead b n (before_asym j k b)) (λ b. past b n (before_other j k b n)) (cases_Bool (before j k)))
-    (cases_Bool (same_key j k))
+ways j k = grind (arith, same_key_true, before_irrefl, before_asym, before_other, ahead, here, past, cases_Bool)
 
 -- the order that `Key` derives
 abbrev pub key_cmp : Key → Key → Ordering
