@@ -12,7 +12,7 @@ mod tests;
 use crate::record::Record;
 use std::marker::Model;
 
-// A sorted Vec and no BTreeMap: a map gets memory with each new key, so a put could fail for want of it, and here none can.
+// A sorted Vec and no BTreeMap: a map gets memory with each new key, so a put could fail for want of it. By `room` none asks for any.
 #[derive(Drop)]
 pub struct Table {
     records: Vec<Record>,
