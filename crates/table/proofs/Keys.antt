@@ -1,7 +1,9 @@
 -- The laws of the order on keys.
-use Rattle.std.proofs.Common.{◌≡◌, true, false, refl, subst, ⊎_elim, arith}
+use Rattle.std.proofs.Common.{◌≡◌, ◌≤◌, true, false, Ordering, arith}
+use Rattle.std.specs.Ordering.{nat_cmp, ordering_then, ordering_index, MatchOrdering}
 use Rattle.std.proofs.lemmas.Bool.Decides.{nat_tests}
-use Rattle.std.proofs.lemmas.Bool.{and_parts, eqb-true, cases_Bool}
+use Rattle.std.proofs.lemmas.Bool.{cases_Bool}
+use Rattle.std.proofs.lemmas.Grind.{common_steps}
 use Rattle.base.specs.declared.key.Key.{Key}
 use Rattle.table.specs.Order.{before, same_key}
 
@@ -15,14 +17,10 @@ same_key_sym j k = grind (arith, nat_tests)
 
 pub same_key_true : (j k : Key) → same_key j k ≡ true → j ≡ k
 unfolding same_key
-same_key_true j k e =
-    let p = and_parts _ _ e in
-    let x = eqb-true _ _ p.0 in
-    let y = eqb-true _ _ p.1 in
-    λ i. record { kind = x i; code = y i }
+same_key_true j k e = grind (arith, nat_tests)
 
 pub same_key_false : (j k : Key) → (j ≡ k → ⊥) → same_key j k ≡ false
-same_key_false j k ne = elim (same_key j k) as (λ v. (same_key j k ≡ v → v ≡ false)) [ true ↦ λ e. absurd (ne (same_key_true j k e)) | false ↦ λ e. refl ] refl
+same_key_false j k ne = grind (arith, common_steps, same_key_true)
 
 pub before_irrefl : (k : Key) → before k k ≡ false
 unfolding before
@@ -52,8 +50,18 @@ pub data Way (j k : Key) : Type 0 where
   past : before j k ≡ false → same_key j k ≡ false → before k j ≡ true → Way j k
 
 pub ways : (j k : Key) → Way j k
-ways j k =
-    ⊎_elim
-    (λ s. let e = same_key_true j k s in here e s (subst (λ (x : Key). before j x ≡ false) e (before_irrefl j)) (subst (λ (x : Key). before x j ≡ false) e (before_irrefl j)))
-    (λ n. ⊎_elim (λ b. ahead b n (before_asym j k b)) (λ b. past b n (before_other j k b n)) (cases_Bool (before j k)))
-    (cases_Bool (same_key j k))
+ways j k = grind (arith, same_key_true, before_irrefl, before_asym, before_other, ahead, here, past, cases_Bool)
+
+-- the order that `Key` derives
+abbrev pub key_cmp : Key → Key → Ordering
+key_cmp j k = ordering_then (nat_cmp j.kind k.kind) (nat_cmp j.code k.code)
+
+-- it tells which of two keys comes before the other
+pub key_ranks : (j k : Key) (r : Ordering) → r ≡ key_cmp j k → MatchOrdering r (before j k ≡ true) (j ≡ k) (before k j ≡ true)
+unfolding before
+key_ranks j k r e = grind (arith, nat_tests)
+
+-- and rises with the key on its left
+pub key_cmp_rises : (i j k : Key) → before i j ≡ true → ordering_index (key_cmp i k) ≤ ordering_index (key_cmp j k)
+unfolding before
+key_cmp_rises i j k b = grind (arith, nat_tests)

@@ -3,7 +3,6 @@ pub mod Keys
 pub mod Looks
 pub mod Members
 pub mod Nexts
-pub mod Ranks
 pub mod Shapes
 pub mod Standing
 pub mod Tables

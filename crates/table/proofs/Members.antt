@@ -1,20 +1,21 @@
 -- What is in a sorted list, and what holds of all that is.
-use Rattle.std.proofs.Common.{◌≡◌, ℕ, zero, suc, ◌<◌, true, cond, List, [], ◌∷◌, length, get_or, Some, refl, subst, inl, inr}
-use Rattle.std.specs.List.{slice_get, ContainsAt as Has, AllByRecursion}
-use Rattle.std.proofs.lemmas.Option.{slice_get-get_or}
-use Rattle.std.proofs.lemmas.Bool.{and_parts, cases_Bool}
+use Rattle.std.proofs.Common.{◌≡◌, ℕ, zero, suc, ◌<◌, true, List, [], ◌∷◌, length, get_or, Some, refl, inl, inr, arith}
+use Rattle.std.specs.List.{slice_get, Contains, AllByRecursion}
+use Rattle.std.proofs.lemmas.Bool.{cases_Bool}
+use Rattle.std.proofs.lemmas.Grind.{common_steps}
+use Rattle.std.proofs.lemmas.Option.{slice_get-get_or, none-some}
 use Rattle.base.specs.declared.key.Key.{Key}
 use Rattle.table.specs.declared.record.Record.{Record}
 use Rattle.table.specs.Order.{before, same_key, all_behind, sorted}
 use Rattle.table.specs.Records.{look, put, take_out}
-use Rattle.table.proofs.Keys.{same_key_refl, before_apart, ahead, here, past, ways}
-use Rattle.table.proofs.Looks.{sorted_head, sorted_tail, none_some}
+use Rattle.table.proofs.Keys.{same_key_refl, before_apart}
 
-nth_behind : (k : Key) (rs : List Record) (i : ℕ) (r : Record) → all_behind k rs ≡ true → slice_get rs i ≡ Some r → before k r.key ≡ true
+-- each record of a list that lies behind a key has a key behind it
+pub nth_behind : (k : Key) (rs : List Record) (i : ℕ) (r : Record) → all_behind k rs ≡ true → slice_get rs i ≡ Some r → before k r.key ≡ true
 unfolding all_behind
-nth_behind k [] i r a h = absurd (none_some r h)
-nth_behind k (s ∷ ss) zero r a h = let e : s ≡ r = cc in subst (λ (x : Record). before k x.key ≡ true) e (and_parts _ _ a).0
-nth_behind k (s ∷ ss) (suc i) r a h = nth_behind k ss i r (and_parts _ _ a).1 h
+nth_behind k [] i r a h = absurd (none-some r h)
+nth_behind k (s ∷ ss) zero r a h = grind (arith, common_steps)
+nth_behind k (s ∷ ss) (suc i) r a h = grind (arith, common_steps, nth_behind k ss i r)
 
 all_from_nth : (P : Record → Type 0) (rs : List Record) → ((i : ℕ) (r : Record) → slice_get rs i ≡ Some r → P r) → AllByRecursion P rs
 all_from_nth P [] h = tt
@@ -23,22 +24,20 @@ all_from_nth P (r ∷ rs) h = (h 0 r refl, all_from_nth P rs (λ i s e. h (suc i
 -- a record of a sorted list is found under its key
 pub look_nth : (rs : List Record) (i : ℕ) (r : Record) → sorted rs ≡ true → slice_get rs i ≡ Some r → look r.key rs ≡ Some r
 unfolding look
-look_nth [] i r o h = absurd (none_some r h)
-look_nth (s ∷ ss) zero r o h = let e : s ≡ r = cc in subst (λ (x : Record). cond (same_key s.key x.key) (Some s) (look x.key ss) ≡ Some x) e (simp same_key_refl)
-look_nth (s ∷ ss) (suc i) r o h =
-    let n = before_apart s.key r.key (nth_behind s.key ss i r (sorted_head s ss o) h) in
-    simp n (look_nth ss i r (sorted_tail s ss o) h)
+look_nth [] i r o h = absurd (none-some r h)
+look_nth (s ∷ ss) zero r o h = grind (arith, common_steps, same_key_refl)
+look_nth (s ∷ ss) (suc i) r o h = grind (arith, common_steps, before_apart s.key r.key, nth_behind s.key ss i r, look_nth ss i r)
 
 pub look_getD : (rs : List Record) (i : ℕ) (d : Record) → sorted rs ≡ true → i < length rs → look (get_or rs i d).key rs ≡ Some (get_or rs i d)
 look_getD rs i d o lt = look_nth rs i (get_or rs i d) o (slice_get-get_or rs i d lt)
 
-pub look-has : (rs : List Record) (r : Record) → sorted rs ≡ true → Has rs r → look r.key rs ≡ Some r
-look-has rs r o h = subst (λ (x : Record). look x.key rs ≡ Some x) (h.2 r) (look_getD rs h.0 r o h.1)
+pub look-has : (rs : List Record) (r : Record) → sorted rs ≡ true → Contains rs r → look r.key rs ≡ Some r
+look-has rs r o h = rw h.2 at (look_getD rs h.0 r o h.1)
 
 -- what is found stands at some place
 pub nth_from_look : (k : Key) (rs : List Record) (r : Record) → look k rs ≡ Some r → (i : ℕ) × (slice_get rs i ≡ Some r)
 unfolding look
-nth_from_look k [] r h = absurd (none_some r h)
+nth_from_look k [] r h = absurd (none-some r h)
 nth_from_look k (s ∷ ss) r h =
     elim (cases_Bool (same_key s.key k)) [
       | inl y ↦ (0, simp y at h)
@@ -48,12 +47,8 @@ nth_from_look k (s ∷ ss) r h =
 module _ (P : Record → Type 0) where
   pub all_look : (k : Key) (rs : List Record) (r : Record) → AllByRecursion P rs → look k rs ≡ Some r → P r
   unfolding look
-  all_look k [] r a h = absurd (none_some r h)
-  all_look k (s ∷ ss) r a h =
-      elim (cases_Bool (same_key s.key k)) [
-        | inl y ↦ let f : Some s ≡ Some r = simp y at h in let e : s ≡ r = cc in subst P e a.0
-        | inr n ↦ all_look k ss r a.1 (simp n at h)
-      ]
+  all_look k [] r a h = absurd (none-some r h)
+  all_look k (s ∷ ss) r a h = grind (arith, common_steps, a.0, all_look k ss r a.1)
 
   pub all_from_look : (rs : List Record) → sorted rs ≡ true → ((k : Key) (r : Record) → look k rs ≡ Some r → P r) → AllByRecursion P rs
   all_from_look rs o h = all_from_nth P rs (λ i r e. h r.key r (look_nth rs i r o e))
@@ -61,15 +56,9 @@ module _ (P : Record → Type 0) where
   pub all_put : (r : Record) (rs : List Record) → P r → AllByRecursion P rs → AllByRecursion P (put r rs)
   unfolding put
   all_put r [] p a = (p, tt)
-  all_put r (s ∷ ss) p a =
-      elim (ways s.key r.key) [
-        | ahead b n l ↦ simp (n, l) (a.0, all_put r ss p a.1)
-        | here e y b l ↦ simp y (p, a.1)
-        | past b n l ↦ simp (n, l) (p, a)
-      ]
+  all_put r (s ∷ ss) p a = grind (arith, common_steps, a.0, a.1, all_put r ss p a.1)
 
   pub all_take_out : (k : Key) (rs : List Record) → AllByRecursion P rs → AllByRecursion P (take_out k rs)
   unfolding take_out
   all_take_out k [] a = a
-  all_take_out k (r ∷ rs) a =
-      elim (cases_Bool (same_key r.key k)) [ inl y ↦ simp y a.1 | inr n ↦ simp n (a.0, all_take_out k rs a.1) ]
+  all_take_out k (r ∷ rs) a = grind (arith, common_steps, a.0, a.1, all_take_out k rs a.1)

@@ -1,10 +1,8 @@
 -- Where a key stands in a sorted list, or would be put: what each call makes of that place.
-use Rattle.std.specs.Prelude.{◌≡◌, ℕ, ◌+◌, ◌<◌, ◌≤◌, true, false, List, length, Some, None, slice_index_or, slice_set}
+use Rattle.std.specs.Prelude.{◌≡◌, ℕ, ◌+◌, ◌<◌, ◌≤◌, true, false, List, length, Some, None, Result, Ok, Err, slice_index_or, slice_set}
 use Rattle.std.specs.List.{slice_get, insert, remove}
 use Rattle.base.specs.declared.key.Key.{Key}
 use Rattle.table.specs.declared.record.Record.{Record}
-use Rattle.table.specs.declared.calls.Place.{Place}
-use Rattle.table.specs.declared.calls.Place.TheVariants.{Found, Missing}
 use Rattle.table.specs.Order.{sorted}
 use Rattle.table.specs.Records.{look, has, put, take_out, next_behind}
 
@@ -27,6 +25,7 @@ pub record Lacks (k : Key) (rs : List Record) (i : ℕ) : Type 0 where
   pub same : rs ≡ take_out k rs
   pub still_added : (r : Record) → r.key ≡ k → sorted (insert rs i r) ≡ true
 
-abbrev pub Placed : Key → List Record → Place → Type 0
-Placed k rs (Found i) = Stands k rs i
-Placed k rs (Missing i) = Lacks k rs i
+-- where a search ends: at the key's own place, or at the place where it would be put
+abbrev pub Placed : Key → List Record → Result ℕ ℕ → Type 0
+Placed k rs (Ok i) = Stands k rs i
+Placed k rs (Err i) = Lacks k rs i

@@ -1,5 +1,5 @@
 -- What a sorted list of records holds, and how it changes.
-use Rattle.std.specs.Prelude.{ℕ, suc, Bool, false, cond, ◌||◌, List, [], ◌∷◌, Some, None, Option}
+use Rattle.std.specs.Prelude.{Bool, false, cond, ◌||◌, List, [], ◌∷◌, Some, None, Option}
 use Rattle.base.specs.declared.key.Key.{Key}
 use Rattle.table.specs.declared.record.Record.{Record}
 use Rattle.table.specs.Order.{before, same_key, behind}
@@ -31,8 +31,3 @@ next_behind o (r ∷ rs) = cond (behind o r.key) (Some r) (next_behind o rs)
 unfoldable pub still_behind : Option Key → List Record → List Record
 still_behind o [] = []
 still_behind o (r ∷ rs) = cond (behind o r.key) (r ∷ still_behind o rs) (still_behind o rs)
-
--- how many records at the front come before a key
-unfoldable pub rank : Key → List Record → ℕ
-rank k [] = 0
-rank k (r ∷ rs) = cond (before r.key k) (suc (rank k rs)) 0

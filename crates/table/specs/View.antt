@@ -1,16 +1,17 @@
--- What contracts say of a table.
-use Rattle.std.specs.Prelude.{Bool, cond, ◌||◌, List, length, Ok, Err, vec_items, Result, nat_lt}
+-- What contracts see of a table, and what they say of it.
+use Rattle.std.specs.Prelude.{◌≡◌, ◌≤◌, Bool, true, cond, ◌||◌, List, length, Ok, Err, Result, nat_lt}
 use Rattle.base.specs.declared.key.Key.{Key}
 use Rattle.base.specs.declared.refusal.Refusal.{Refusal}
 use Rattle.base.specs.declared.refusal.Refusal.TheVariants.{TableFull}
-use Rattle.table.specs.declared.Table.{Table}
 use Rattle.table.specs.declared.record.Record.{Record}
-use Rattle.table.specs.Order.{most_records}
+use Rattle.table.specs.Order.{sorted, most_records}
 use Rattle.table.specs.Records.{has, put}
 
--- the records of a table, in their order
-abbrev pub view : Table → List Record
-view t = vec_items t.records
+-- a table as contracts see it: its records in their order, no key twice
+pub record SortedRecords : Type 0 where
+  pub records : List Record
+  pub ordered : sorted records ≡ true
+  pub few : length records ≤ most_records
 
 -- a key that is there has room, a new one only below the most that fit
 abbrev pub room_for : Key → List Record → Bool

@@ -18,10 +18,7 @@ fn written(key: Key, tid: u64) -> Record {
 }
 
 fn tid(found: Option<Record>) -> Option<u64> {
-    match found {
-        Some(r) => Some(r.tid),
-        None => None,
-    }
+    found.map(|r| r.tid)
 }
 
 // Keys 1 of kind 0, 9 of kind 0 and 0 of kind 2, put out of order.
