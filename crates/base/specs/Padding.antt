@@ -1,11 +1,12 @@
 -- A padded text gives its text back.
-use Rattle.std.specs.Prelude.{◌≡◌, ℕ, zero, suc, ◌-◌, ◌≤◌, true, false, List, [], ◌∷◌, ◌++◌, length, replicate, ◌≢◌, refl, ◌==◌}
+use Rattle.std.specs.Prelude.{◌≡◌, ℕ, zero, suc, ◌-◌, ◌≤◌, true, false, not, List, [], ◌∷◌, ◌++◌, length, take, replicate, Ok, ◌≢◌, refl, ◌==◌}
 use Rattle.std.proofs.Common.{sym, ap, ◌∙◌, arith, length-append}
-use Rattle.std.proofs.lemmas.Bool.{and_parts, leb-true}
-use Rattle.std.proofs.lemmas.List.{length-replicate}
+use Rattle.std.proofs.lemmas.Bool.{and_parts, and_from, leb-true, le-leb}
+use Rattle.std.proofs.lemmas.List.{take_at, length-replicate}
 use Rattle.std.proofs.lemmas.Bool.Decides.{nat_tests}
 use Rattle.base.specs.Bytes.{Bytes}
 use Rattle.base.specs.Codes.{no_zero, before_zero, group_text, padded, group_code}
+use Rattle.base.specs.Groups.{named}
 use Rattle.base.specs.Spelling.{same_bytes}
 
 zeros_first : (m y : ℕ) (ys : List ℕ) (n : ℕ) → no_zero (y ∷ ys) ≡ true → replicate m 0 ≢ (y ∷ ys) ++ replicate n 0
@@ -48,3 +49,14 @@ text_back (x ∷ xs) n h =
     let rest : before_zero (xs ++ replicate n 0) ≡ xs = text_back xs n (and_parts _ _ h).1 in
     let z : (x == 0) ≡ false = grind (arith, nat_tests) in
     rw z (ap (λ t. x ∷ t) rest)
+
+pub text_from : (xs : List ℕ) → 1 ≤ length xs → length xs ≤ 16 → false ≡ not (no_zero xs) → group_text xs ≡ true
+text_from xs low high h =
+    let z : no_zero xs ≡ true = grind (arith, nat_tests) in
+    and_from _ _ (and_from _ _ (le-leb 1 (length xs) low) (le-leb (length xs) 16 high)) z
+
+pub front_padded : (xs bs : List ℕ) → bs ≡ padded xs → take (length xs) bs ≡ xs
+front_padded xs bs e = ap (take (length xs)) e ∙ take_at xs (replicate (16 - length xs) 0) (length xs) refl
+
+pub named_from : (xs : List ℕ) → group_text xs ≡ true → Ok xs ≡ named xs
+named_from xs h = rw h refl
