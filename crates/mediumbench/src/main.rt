@@ -49,10 +49,10 @@ fn round<M: Medium>(m: &mut M, tally: Tally) -> Result<Tally, Refusal> {
 fn rounds<M: Medium>(m: &mut M, count: u32) -> Tally {
     let mut tally = Tally { next: 0, digest: 7 };
     for _ in 0..count {
-        match round(m, tally) {
-            Ok(more) => tally = more,
-            Err(_) => return tally,
-        }
+        let Ok(more) = round(m, tally) else {
+            return tally;
+        };
+        tally = more;
     }
     tally
 }

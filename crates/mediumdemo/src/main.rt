@@ -72,23 +72,28 @@ fn on_both(
     pages: &mut [[u8; 512]],
     table: &mut [u32],
 ) -> io::Result<()> {
-    let ring_plan = match plan_of(&CAPACITIES, cells.len()) {
-        Ok(plan) => plan,
-        Err(e) => return println!(rt; "refused {}", e.number()),
-    };
-    let pool_plan = match plan_pool(&CAPACITIES, pages.len(), table.len()) {
-        Ok(plan) => plan,
-        Err(e) => return println!(rt; "refused {}", e.number()),
-    };
-    let mut ring = make_ring(ring_plan, cells);
-    let mut pool = make_pool(pool_plan, pages, table);
+    let plans = (
+        plan_of(&CAPACITIES, cells.len()),
+        plan_pool(&CAPACITIES, pages.len(), table.len()),
+    );
+    match plans {
+        (Ok(ring_plan), Ok(pool_plan)) => {
+            let mut ring = make_ring(ring_plan, cells);
+            let mut pool = make_pool(pool_plan, pages, table);
+            play_both(rt, &mut ring, &mut pool)
+        }
+        (Err(e), _) | (_, Err(e)) => println!(rt; "refused {}", e.number()),
+    }
+}
+
+fn play_both(rt: HostRuntime, ring: &mut Ring<'_>, pool: &mut Pool<'_>) -> io::Result<()> {
     println!(rt; "ring")?;
-    script(rt, &mut ring)?;
+    script(rt, ring)?;
     println!(rt; "pool")?;
-    script(rt, &mut pool)?;
+    script(rt, pool)?;
     println!(rt; "both")?;
-    let twins = play_twins(&mut ring, &mut pool, 5, &[50; 512], 0);
+    let twins = play_twins(ring, pool, 5, &[50; 512], 0);
     show_round(rt, twins.one)?;
     show_round(rt, twins.other)?;
-    fail_power(rt, &mut pool)
+    fail_power(rt, pool)
 }
