@@ -115,13 +115,13 @@ fn check_padding(block: &[u8; 512], n: usize, file: u8, number: u32) -> Result<(
 }
 
 // Each command in turn; bytes that are left are no command.
+#[tactic(auto, unfolding(crate::specs::Checks::walk))]
 fn check_commands(bytes: &[u8], file: u8, number: u32, marked: u32) -> Result<(), BlockFault>
     requires { length bytes.now ≤ 502 }
     ensures { result ≡ passed tt (commands_fault file number marked bytes.now) }
 {
-    let mut rest = Commands::over(bytes);
     let mut way = Way::start();
-    while let Some(command) = rest.next() {
+    for command in Commands::over(bytes) {
         let what = command.entry();
         if let Some(fault) = entry_fault(file, number, marked, way, &what) {
             return Err(fault);

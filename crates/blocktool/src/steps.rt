@@ -26,12 +26,8 @@ fn show_block(rt: &HostRuntime, block: &[u8; 512]) -> anyhow::Result<()> {
     Ok(())
 }
 
-fn show_commands(rt: &HostRuntime, mut commands: Commands<'_>) -> anyhow::Result<()> {
-    // A block has room for at most 55 commands.
-    for _ in 0..56usize {
-        let Some(command) = commands.next() else {
-            break;
-        };
+fn show_commands(rt: &HostRuntime, commands: Commands<'_>) -> anyhow::Result<()> {
+    for command in commands {
         let at = place_of(&command);
         let text = entry_text(rt.alloc(), &command.entry())?;
         println!(rt; "  byte {at:3}: {text}")?;

@@ -4,9 +4,9 @@ ghost use Rattle.std.specs.Int.{w64};
 ghost use Rattle.std.proofs.Common.{to_z};
 ghost use Rattle.base.specs.Bytes.{be_at};
 ghost use Rattle.std.specs.Option.{option_map};
-ghost use Rattle.block.specs.Commands.{value_of, place_of, pending, place, taken};
+ghost use Rattle.block.specs.Commands.{value_of, place_of, place};
 ghost use Rattle.block.specs.Format.{size_of};
-ghost use Rattle.block.specs.Parsing.{first_entry, head_of, tail_of};
+ghost use Rattle.block.specs.Parsing.{first_entry};
 
 use super::{Command, Commands};
 use crate::entry::{DEL, Entry, GONE, PUT, ROW, TXN};
@@ -196,20 +196,22 @@ impl<'a> Commands<'a> {
     {
         self.end.saturating_sub(self.rest.len())
     }
+}
+
+impl<'a> Iterator for Commands<'a> {
+    ghost use Rattle.std.specs.Iterator.{item_count};
+    ghost use Rattle.block.specs.Commands.{pending, GivesNext};
+
+    type Item = Command<'a>;
 
     // The next command; none at the end, or where no command begins.
-    pub fn next(&mut self) -> Option<Command<'a>>
-        ensures answer { option_map value_of result ≡ head_of (pending self.old) }
-        ensures after { pending self.new ≡ tail_of (pending self.old) }
-        ensures place { IfSome result (λ c. place_of c ≡ place self.old) }
-        ensures end { self.new.«end» ≡ self.old.«end» }
-        ensures rest { self.new.rest.now ≡ drop (taken (option_map value_of result)) self.old.rest.now }
-        ensures enough { taken (option_map value_of result) ≤ length self.old.rest.now }
-    {
+    ghost next_gives = { GivesNext };
+
+    ghost remaining = { item_count pending };
+
+    fn next(&mut self) -> Option<Command<'a>> {
         let rest = self.rest;
-        let Some(command) = parse(rest, self.place()) else {
-            return None;
-        };
+        let command = parse(rest, self.place())?;
         self.rest = &rest[command.size()..];
         Some(command)
     }
