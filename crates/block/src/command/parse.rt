@@ -1,5 +1,5 @@
 // From bytes to commands.
-ghost use Rattle.std.specs.Prelude.{◌≡◌, ◌+◌, ◌<◌, ◌≤◌, length, take, drop, IfSome};
+ghost use Rattle.std.specs.Prelude.{◌≡◌, ◌↔◌, ◌+◌, ◌<◌, ◌≤◌, length, take, drop, IfSome, IsSome};
 ghost use Rattle.std.specs.Int.{w64};
 ghost use Rattle.std.proofs.Common.{to_z};
 ghost use Rattle.base.specs.Bytes.{be_at};
@@ -12,26 +12,12 @@ use super::{Command, Commands};
 use crate::entry::{DEL, Entry, GONE, PUT, ROW, TXN};
 use base::key::Key;
 
-// The bytes of a number of 64 bits.
-fn eight(bytes: &[u8], at: usize) -> &[u8; 8]
-    requires { at + 8 ≤ length bytes.now }
-    ensures { result.now ≡ take 8 (drop at bytes.now) }
+// So many bytes from one place on, if they are there.
+fn part<const N: usize>(bytes: &[u8], at: usize) -> Option<&[u8; N]>
+    ensures part { IfSome result (λ part. part.now ≡ take N (drop at bytes.now)) }
+    ensures there { IsSome result ↔ (at + N ≤ length bytes.now) }
 {
-    match bytes[at..at + 8].first_chunk::<8>() {
-        Some(part) => part,
-        None => unreachable(),
-    }
-}
-
-// The bytes of a code.
-fn sixteen(bytes: &[u8], at: usize) -> &[u8; 16]
-    requires { at + 16 ≤ length bytes.now }
-    ensures { result.now ≡ take 16 (drop at bytes.now) }
-{
-    match bytes[at..at + 16].first_chunk::<16>() {
-        Some(part) => part,
-        None => unreachable(),
-    }
+    bytes.get(at..)?.first_chunk::<N>()
 }
 
 // The command that the bytes begin with, if its first byte is known and all its bytes are there.
@@ -40,64 +26,35 @@ fn parse<'a>(rest: &'a [u8], at: usize) -> Option<Command<'a>>
     ensures place { IfSome result (λ c. place_of c ≡ at) }
     ensures fits { IfSome result (λ c. size_of (value_of c) ≤ length rest.now) }
 {
-    if rest.is_empty() {
-        return None;
-    }
-    let len = rest.len();
-    match rest[0] {
-        TXN => {
-            if len < 9 {
-                return None;
-            }
-            Some(Command::Txn {
-                at,
-                tid: eight(rest, 1),
-            })
-        }
-        PUT => {
-            if len < 26 {
-                return None;
-            }
-            Some(Command::Put {
-                at,
-                kind: rest[1],
-                code: sixteen(rest, 2),
-                value: eight(rest, 18),
-            })
-        }
-        DEL => {
-            if len < 18 {
-                return None;
-            }
-            Some(Command::Del {
-                at,
-                kind: rest[1],
-                code: sixteen(rest, 2),
-            })
-        }
-        ROW => {
-            if len < 34 {
-                return None;
-            }
-            Some(Command::Row {
-                at,
-                tid: eight(rest, 1),
-                kind: rest[9],
-                code: sixteen(rest, 10),
-                value: eight(rest, 26),
-            })
-        }
-        GONE => {
-            if len < 26 {
-                return None;
-            }
-            Some(Command::Gone {
-                at,
-                tid: eight(rest, 1),
-                kind: rest[9],
-                code: sixteen(rest, 10),
-            })
-        }
+    match *rest.first()? {
+        TXN => Some(Command::Txn {
+            at,
+            tid: part(rest, 1)?,
+        }),
+        PUT => Some(Command::Put {
+            at,
+            kind: *rest.get(1)?,
+            code: part(rest, 2)?,
+            value: part(rest, 18)?,
+        }),
+        DEL => Some(Command::Del {
+            at,
+            kind: *rest.get(1)?,
+            code: part(rest, 2)?,
+        }),
+        ROW => Some(Command::Row {
+            at,
+            tid: part(rest, 1)?,
+            kind: *rest.get(9)?,
+            code: part(rest, 10)?,
+            value: part(rest, 26)?,
+        }),
+        GONE => Some(Command::Gone {
+            at,
+            tid: part(rest, 1)?,
+            kind: *rest.get(9)?,
+            code: part(rest, 10)?,
+        }),
         _ => None,
     }
 }
