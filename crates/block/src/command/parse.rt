@@ -65,12 +65,6 @@ fn number(bytes: &[u8; 8]) -> u64
     u64::from_be_bytes(*bytes)
 }
 
-fn seconds(bytes: &[u8; 8]) -> i64
-    ensures { result ≡ to_z w64 (be_at 8 0 bytes.now) }
-{
-    i64::from_be_bytes(*bytes)
-}
-
 fn key(kind: u8, code: &[u8; 16]) -> Key
     ensures { result ≡ record { kind = kind; code = be_at 16 0 code.now } }
 {
@@ -94,7 +88,7 @@ impl Command<'_> {
                 ..
             } => Entry::Put {
                 key: key(kind, code),
-                value: seconds(value),
+                value: i64::from_be_bytes(*value),
             },
             Command::Del { kind, code, .. } => Entry::Del {
                 key: key(kind, code),
@@ -108,7 +102,7 @@ impl Command<'_> {
             } => Entry::Row {
                 tid: number(tid),
                 key: key(kind, code),
-                value: seconds(value),
+                value: i64::from_be_bytes(*value),
             },
             Command::Gone {
                 tid,
@@ -119,18 +113,6 @@ impl Command<'_> {
                 tid: number(tid),
                 key: key(kind, code),
             },
-        }
-    }
-
-    fn size(&self) -> usize
-        ensures { result ≡ size_of (value_of self.now) }
-    {
-        match *self {
-            Command::Txn { .. } => 9,
-            Command::Put { .. } => 26,
-            Command::Del { .. } => 18,
-            Command::Row { .. } => 34,
-            Command::Gone { .. } => 26,
         }
     }
 }
@@ -169,7 +151,7 @@ impl<'a> Iterator for Commands<'a> {
     fn next(&mut self) -> Option<Command<'a>> {
         let rest = self.rest;
         let command = parse(rest, self.place())?;
-        self.rest = &rest[command.size()..];
+        self.rest = &rest[command.entry().size()..];
         Some(command)
     }
 }

@@ -15,7 +15,7 @@ pub returns-clause-steps : goal.returns-clause-steps
 returns-clause-steps c =
     let bs = c.args.self.now.rest.now in
     let e = value_of c.in_ok-command.command in
-    let size : c.size.result ≡ size_of e = c.size.ensures in
+    let size : c.size.result ≡ size_of e = c.size.ensures ∙ ap size_of c.entry.ensures in
     let left : take (length bs - c.size.result) (drop c.size.result bs) ≡ drop (size_of e) bs = take_rest bs c.size.result ∙ ap (λ n. drop n bs) size in
     record {
       answer = entries_some bs e (sym c.in_ok-command.ensures.value) ∙ sym (ap (λ r. e ∷ entries r) left);
