@@ -1,11 +1,7 @@
 // Commands, faults and blocks as text.
-ghost use Rattle.std.specs.Prelude.{◌≡◌};
-ghost use Rattle.block.specs.Commands.{place_of};
-
 use base::fault::BlockFault;
 use base::key::Key;
 use base::tid::{epoch_of, sequence_of};
-use block::command::Command;
 use block::entry::Entry;
 use std::alloc::{AllocError, Global};
 
@@ -58,19 +54,6 @@ pub(crate) fn entry_text(heap: Global, entry: &Entry) -> Result<String, AllocErr
             let key = key_text(heap, key)?;
             format!(in heap; "GONE {tid}: {key}")
         }
-    }
-}
-
-// The byte of the block that a command begins at.
-pub(crate) fn place_of(command: &Command<'_>) -> usize
-    ensures { result ≡ place_of command.now }
-{
-    match *command {
-        Command::Txn { at, .. } => at,
-        Command::Put { at, .. } => at,
-        Command::Del { at, .. } => at,
-        Command::Row { at, .. } => at,
-        Command::Gone { at, .. } => at,
     }
 }
 

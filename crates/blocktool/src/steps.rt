@@ -1,6 +1,6 @@
 // The steps of the tool: write, show, read back, change.
 use crate::script::{Script, Target};
-use crate::show::{all_zero, entry_text, fault_text, hex_text, place_of};
+use crate::show::{all_zero, entry_text, fault_text, hex_text};
 use anyhow::anyhow;
 use block::command::Commands;
 use block::reader::read;
@@ -28,7 +28,7 @@ fn show_block(rt: &HostRuntime, block: &[u8; 512]) -> anyhow::Result<()> {
 
 fn show_commands(rt: &HostRuntime, commands: Commands<'_>) -> anyhow::Result<()> {
     for command in commands {
-        let at = place_of(&command);
+        let at = command.place();
         let text = entry_text(rt.alloc(), &command.entry())?;
         println!(rt; "  byte {at:3}: {text}")?;
     }

@@ -10,11 +10,12 @@ ghost use Rattle.block.specs.Parsing.{first_entry};
 
 use super::{Command, Commands};
 use crate::entry::{DEL, Entry, GONE, PUT, ROW, TXN};
+use crate::sizes::COMMANDS;
 use base::key::Key;
 
 // So many bytes from one place on, if they are there.
 fn part<const N: usize>(bytes: &[u8], at: usize) -> Option<&[u8; N]>
-    ensures part { IfSome result (λ part. part.now ≡ take N (drop at bytes.now)) }
+    ensures part { IfSome result (λ found. found.now ≡ take N (drop at bytes.now)) }
     ensures there { IsSome result ↔ (at + N ≤ length bytes.now) }
 {
     bytes.get(at..)?.first_chunk::<N>()
@@ -59,12 +60,14 @@ fn parse<'a>(rest: &'a [u8], at: usize) -> Option<Command<'a>>
     }
 }
 
+// The number that eight bytes spell.
 fn number(bytes: &[u8; 8]) -> u64
     ensures { result ≡ be_at 8 0 bytes.now }
 {
     u64::from_be_bytes(*bytes)
 }
 
+// A key by its kind and the sixteen bytes of its code.
 fn key(kind: u8, code: &[u8; 16]) -> Key
     ensures { result ≡ record { kind = kind; code = be_at 16 0 code.now } }
 {
@@ -75,6 +78,19 @@ fn key(kind: u8, code: &[u8; 16]) -> Key
 }
 
 impl Command<'_> {
+    // The byte of the block that it begins at.
+    pub fn place(&self) -> usize
+        ensures { result ≡ place_of self.now }
+    {
+        match *self {
+            Command::Txn { at, .. }
+            | Command::Put { at, .. }
+            | Command::Del { at, .. }
+            | Command::Row { at, .. }
+            | Command::Gone { at, .. } => at,
+        }
+    }
+
     // Its values.
     pub fn entry(&self) -> Entry
         ensures { result ≡ value_of self.now }
@@ -122,18 +138,12 @@ impl<'a> Commands<'a> {
     pub(crate) fn over(bytes: &'a [u8]) -> Commands<'a>
         requires { length bytes.now ≤ 502 }
         ensures rest { result.rest.now ≡ bytes.now }
-        ensures end { result.«end» ≡ 8 + length bytes.now }
+        ensures place { place result ≡ 8 }
     {
         Commands {
             rest: bytes,
-            end: 8 + bytes.len(),
+            at: COMMANDS,
         }
-    }
-
-    fn place(&self) -> usize
-        ensures { result ≡ place self.now }
-    {
-        self.end.saturating_sub(self.rest.len())
     }
 }
 
@@ -148,10 +158,15 @@ impl<'a> Iterator for Commands<'a> {
 
     ghost remaining = { item_count pending };
 
+    #[tactic(auto, using(crate::proofs::Entries::entries_none, crate::proofs::Entries::entries_some))]
     fn next(&mut self) -> Option<Command<'a>> {
-        let rest = self.rest;
-        let command = parse(rest, self.place())?;
-        self.rest = &rest[command.entry().size()..];
+        let command = parse(self.rest, self.at)?;
+        let size = command.entry().size();
+        let (_, rest) = self.rest.split_at(size);
+        *self = Commands {
+            rest,
+            at: self.at + size,
+        };
         Some(command)
     }
 }

@@ -1,6 +1,6 @@
-use Rattle.std.proofs.Common.{◌≡◌, ◌+◌, length}
+use Rattle.std.proofs.Common.{◌≡◌}
 use Rattle.block.specs.Checks.{walk, start}
-use Rattle.block.specs.Commands.{pending}
+use Rattle.block.specs.Commands.{pending, place}
 use Rattle.block.specs.Parsing.{entries}
 use Rattle.block.proofs.reader.check_commands.Given as goal
 
@@ -8,5 +8,5 @@ use Rattle.block.proofs.reader.check_commands.Given as goal
 abbrev pub invariant-loop-command : goal.invariant-loop-command
 invariant-loop-command l = record {
   walked : walk l.file l.number l.marked l.way (pending l.command-iterator) ≡ walk l.file l.number l.marked start (entries l.bytes);
-  at : l.way.at + length l.command-iterator.rest.now ≡ 8 + length l.bytes;
+  at : l.way.at ≡ place l.command-iterator;
 }
