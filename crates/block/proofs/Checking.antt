@@ -1,6 +1,6 @@
 -- What each check of a block finds.
-use Rattle.std.proofs.Common.{◌≡◌, ℕ, ◌+◌, ◌<◌, ◌≤◌, cond, eqb, List, length, get_or, take, drop, Some, None, Option, sym, ap, ◌∙◌, arith}
-use Rattle.std.proofs.lemmas.List.{at_drop_more, at_drop_all, get_or-take, get_or-drop}
+use Rattle.std.proofs.Common.{◌≡◌, ℕ, ◌+◌, ◌<◌, ◌≤◌, cond, eqb, List, length, get_or, drop, Some, None, Option, sym, ap, ◌∙◌, arith}
+use Rattle.std.proofs.lemmas.List.{at_drop_more, at_drop_all}
 use Rattle.std.proofs.lemmas.Bool.{eq-eqb, ne_eqb}
 use Rattle.block.specs.Checks.{nonzero}
 
@@ -21,7 +21,3 @@ module _ (at : ℕ) (xs : List ℕ) (i : ℕ) where
 
   pub all_zero : length xs ≤ i → nonzero (at + i) (drop i xs) ≡ None
   all_zero le = at_drop_all (nonzero (at + i)) xs i le
-
--- a byte of a part
-pub byte_at : (n i j : ℕ) (xs : List ℕ) → j < n → get_or (take n (drop i xs)) j 0 ≡ get_or xs (i + j) 0
-byte_at n i j xs lt = get_or-take n (drop i xs) j 0 lt ∙ get_or-drop i xs j 0

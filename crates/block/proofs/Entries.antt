@@ -1,10 +1,9 @@
 -- The commands of some bytes, one step at a time.
-use Rattle.std.proofs.Common.{◌≡◌, ℕ, zero, suc, ◌-◌, List, [], ◌∷◌, drop, Some, None, Option, sym, refl, ap, ◌∙◌, arith}
+use Rattle.std.proofs.Common.{◌≡◌, ℕ, zero, suc, ◌-◌, List, [], ◌∷◌, drop, Some, None, sym, refl, ap, ◌∙◌, arith}
 use Rattle.block.specs.declared.entry.Entry.{Entry}
 use Rattle.block.specs.declared.entry.Entry.TheVariants.{Txn, Put, Del, Row, Gone}
 use Rattle.block.specs.Format.{size_of}
-use Rattle.block.specs.Parsing.{first_entry, and_then, entries_behind, entries, head_of, tail_of}
-use Rattle.block.specs.Commands.{taken}
+use Rattle.block.specs.Parsing.{first_entry, and_then, entries_behind, entries}
 
 pub size_suc : (e : Entry) → size_of e ≡ suc (size_of e - 1)
 size_suc (Txn tid) = refl
@@ -29,12 +28,3 @@ entries_some [] e h = let z : ◌≡◌ {A = ℕ} 0 1 = cc in absurd (omega arit
 entries_some (b ∷ bs) e h =
     ap (λ o. and_then o (λ n. entries_behind (n - 1) bs)) h
     ∙ ap (λ es. e ∷ es) (behind (size_of e - 1) bs ∙ ap (λ k. entries_behind 0 (drop k (b ∷ bs))) (sym (size_suc e)))
-
--- one command further, or none
-pub entries_head : (bs : List ℕ) (o : Option Entry) → o ≡ first_entry bs → o ≡ head_of (entries bs)
-entries_head bs None h = ap head_of (sym (entries_none bs (sym h)))
-entries_head bs (Some e) h = ap head_of (sym (entries_some bs e (sym h)))
-
-pub entries_tail : (bs : List ℕ) (o : Option Entry) → o ≡ first_entry bs → entries (drop (taken o) bs) ≡ tail_of (entries bs)
-entries_tail bs None h = entries_none bs (sym h) ∙ sym (ap tail_of (entries_none bs (sym h)))
-entries_tail bs (Some e) h = sym (ap tail_of (entries_some bs e (sym h)))

@@ -4,7 +4,7 @@ use borrow.Rule.Slice.PartMut.{put_mid}
 use lib.ListN.{length-replicate}
 use Rattle.base.specs.Bytes.{be}
 use Rattle.block.specs.Fletcher.{fletcher16}
-use Rattle.std.proofs.lemmas.List.{places, drop-drop, drop-take, drop-replicate, drop-append-le, length-take-le, replicate-append-replicate, take-append-drop, take-take, take_at, drop_at, append-nil}
+use Rattle.std.proofs.lemmas.List.{places, drop-drop, drop-take, drop-replicate, drop-append-le, length-take-le, replicate-append-replicate, take-append-drop, take_at, drop_at, append-nil}
 use Rattle.block.specs.Format.{header, summed, sealed}
 use Rattle.std.proofs.lemmas.Slice.{drop-put_mid, take-put_mid}
 
@@ -77,9 +77,3 @@ module _ (xs : List ℕ) (used file number : ℕ) (whole : length xs ≡ 512) (r
       let d : drop 510 block ≡ replicate 2 0 = ap (drop 510) is ∙ drop_at front (replicate 2 0) 510 length_front in
       let b : part ≡ be 2 (fletcher16 front) = bytes ∙ ap (λ n. be 2 n) (summing ∙ ap fletcher16 t) in
       (λ i. t i ++ (b i ++ drop 2 (d i))) ∙ ap (λ l. front ++ l) (append-nil (be 2 (fletcher16 front)))
-
--- the first n of the n elements from i on
-pub part_from : (xs ys : List ℕ) (i n : ℕ) → ys ≡ take n (take (i + n - i) (drop i xs)) → ys ≡ take n (drop i xs)
-part_from xs ys i n e =
-    let k : i + n - i ≡ n = omega arith in
-    e ∙ ap (λ m. take n (take m (drop i xs))) k ∙ take-take n n (drop i xs) (omega arith)

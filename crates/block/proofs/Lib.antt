@@ -7,4 +7,3 @@ pub mod Laying
 pub mod Sealing
 pub mod Summing
 pub mod Verdicts
-pub mod Walking

@@ -1,5 +1,7 @@
 -- A command that was read, by its values and its place.
-use Rattle.std.specs.Prelude.{ℕ, ◌-◌, List, length, Some, None, Ok, Err, Option, Result}
+use Rattle.std.specs.Prelude.{◌≡◌, ℕ, ◌+◌, ◌≤◌, List, length, drop, Some, None, Ok, Err, Option, Result, IfSome}
+use Rattle.std.specs.Iterator.{YieldsFirstBy}
+use Rattle.std.specs.Option.{option_map}
 use Rattle.std.proofs.Common.{to_z}
 use Rattle.std.specs.Int.{w64}
 use Rattle.base.specs.Bytes.{be_at}
@@ -33,11 +35,19 @@ taken (Some e) = size_of e
 
 -- the byte of the block that the next command begins at
 abbrev pub place : Commands → ℕ
-place c = c.end - length c.rest.now
+place c = c.at
 
 -- the commands that are still to come
 abbrev pub pending : Commands → List Entry
 pending c = entries c.rest.now
+
+-- a call gives the first command to come, with its place, and leaves the others; where none is to come it gives none, and leaves none
+pub record GivesNext (old : Commands) (result : Option Command) (new : Commands) : Type 0 where
+  pub answer : YieldsFirstBy value_of pending old result new
+  pub at : IfSome result (λ c. place_of c ≡ place old)
+  pub on : place new ≡ place old + taken (option_map value_of result)
+  pub rest : new.rest.now ≡ drop (taken (option_map value_of result)) old.rest.now
+  pub enough : taken (option_map value_of result) ≤ length old.rest.now
 
 -- what a reader answered, by the commands to come
 abbrev pub answered : Result Commands BlockFault → Result (List Entry) BlockFault

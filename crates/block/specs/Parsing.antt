@@ -41,11 +41,3 @@ entries_behind zero (b ∷ bs) = and_then (first_entry (b ∷ bs)) (λ n. entrie
 
 unfoldable pub entries : List ℕ → List Entry
 entries bs = entries_behind 0 bs
-
-abbrev pub head_of : List Entry → Option Entry
-head_of [] = None
-head_of (e ∷ es) = Some e
-
-abbrev pub tail_of : List Entry → List Entry
-tail_of [] = []
-tail_of (e ∷ es) = es

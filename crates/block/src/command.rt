@@ -1,4 +1,6 @@
 // Commands as they are read: each case holds parts of the block, and the byte at which it begins.
+ghost use Rattle.std.specs.Prelude.{◌+◌, ◌≤◌, length};
+
 mod parse;
 
 #[derive(Clone, Copy)]
@@ -33,9 +35,11 @@ pub enum Command<'a> {
     },
 }
 
-// The commands of a block, one after the other: what is left of its command bytes, and the byte where they end.
+// The commands of a block, one after the other: what is left of its command bytes, and the byte where that begins.
 #[derive(Clone, Copy)]
 pub struct Commands<'a> {
     rest: &'a [u8],
-    end: usize,
+    at: usize,
+    // The sum stands behind them.
+    ghost within: { at + length rest.now ≤ 510 },
 }

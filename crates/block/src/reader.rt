@@ -1,5 +1,5 @@
 // Reading a block: its checks, in the order in which they count, and then its commands.
-ghost use Rattle.std.specs.Prelude.{◌≡◌, ℕ, ◌+◌, ◌<◌, ◌≤◌, length, IfOk};
+ghost use Rattle.std.specs.Prelude.{◌≡◌, ℕ, ◌+◌, ◌<◌, ◌≤◌, length, take, drop, IfOk};
 ghost use Rattle.base.specs.Bytes.{number_at};
 ghost use Rattle.block.specs.Checks.{wrong_header, summed_right, wrong_sum, nonzero, fault_at, passed, header_fault, sum_fault, padding_fault, commands_fault, read_answer};
 ghost use Rattle.block.specs.Commands.{answered};
@@ -14,19 +14,27 @@ use base::fault::BlockFault;
 use base::limits::FILES;
 use base::refusal::Refusal;
 
+// So many bytes of a block, from one place on.
+fn bytes_at<const N: usize>(block: &[u8; 512], at: usize) -> [u8; N]
+    requires { at + N ≤ 512 }
+    ensures { result ≡ take N (drop at block.now) }
+{
+    *block[at..].first_chunk::<N>().unwrap()
+}
+
 // Two bytes of a block as a number.
 fn two_at(block: &[u8; 512], at: usize) -> u16
     requires { at + 2 ≤ 512 }
     ensures { result ≡ number_at 2 at block.now }
 {
-    u16::from_be_bytes([block[at], block[at + 1]])
+    u16::from_be_bytes(bytes_at(block, at))
 }
 
 fn four_at(block: &[u8; 512], at: usize) -> u32
     requires { at + 4 ≤ 512 }
     ensures { result ≡ number_at 4 at block.now }
 {
-    u32::from_be_bytes([block[at], block[at + 1], block[at + 2], block[at + 3]])
+    u32::from_be_bytes(bytes_at(block, at))
 }
 
 // The first header field that is wrong, by its byte.
@@ -115,13 +123,13 @@ fn check_padding(block: &[u8; 512], n: usize, file: u8, number: u32) -> Result<(
 }
 
 // Each command in turn; bytes that are left are no command.
+#[tactic(auto, unfolding(crate::specs::Checks::walk))]
 fn check_commands(bytes: &[u8], file: u8, number: u32, marked: u32) -> Result<(), BlockFault>
     requires { length bytes.now ≤ 502 }
     ensures { result ≡ passed tt (commands_fault file number marked bytes.now) }
 {
-    let mut rest = Commands::over(bytes);
     let mut way = Way::start();
-    while let Some(command) = rest.next() {
+    for command in Commands::over(bytes) {
         let what = command.entry();
         if let Some(fault) = entry_fault(file, number, marked, way, &what) {
             return Err(fault);

@@ -76,14 +76,11 @@ fn sum_of(written: Result<[u8; 512], WriteError>) -> u64 {
 
 // The writes of a block, by the codes of their keys; 0 where the block is not read.
 fn codes_of(block: &[u8; 512], number: u32) -> u64 {
-    let Ok(mut commands) = read(block, 0, number, 1_000_000) else {
+    let Ok(commands) = read(block, 0, number, 1_000_000) else {
         return 0;
     };
     let mut all = 0u64;
-    for _ in 0..56usize {
-        let Some(command) = commands.next() else {
-            break;
-        };
+    for command in commands {
         if let Entry::Put { key, .. } = command.entry() {
             all = all.wrapping_add((key.code & 0xffff) as u64).wrapping_add(1);
         }

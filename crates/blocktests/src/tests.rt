@@ -84,14 +84,12 @@ fn part_entries(heap: Global, rows: u8, erased: u8) -> Result<Vec<Entry>, AllocE
 fn comes_back(rt: &impl Abort, file: u8, entries: &[Entry], bytes: u16) -> Result<(), Fail> {
     let block = write_block(file, NUMBER, entries)?;
     assert_eq!(rt; u16::from_be_bytes([block[2], block[3]]), bytes);
-    let mut commands = read(&block, file, NUMBER, MARKED)?;
-    for entry in entries {
-        let Some(command) = commands.next() else {
-            return Err(Fail::new("a command is missing"));
-        };
-        assert_eq!(rt; command.entry(), *entry);
-    }
-    assert!(rt; commands.next().is_none());
+    let commands = read(&block, file, NUMBER, MARKED)?;
+    assert!(rt;
+        commands
+            .map(|command| command.entry())
+            .eq(entries.iter().copied())
+    );
     Ok(())
 }
 

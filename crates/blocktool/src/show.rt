@@ -1,11 +1,7 @@
 // Commands, faults and blocks as text.
-ghost use Rattle.std.specs.Prelude.{◌≡◌};
-ghost use Rattle.block.specs.Commands.{place_of};
-
 use base::fault::BlockFault;
 use base::key::Key;
 use base::tid::{epoch_of, sequence_of};
-use block::command::Command;
 use block::entry::Entry;
 use std::fmt;
 
@@ -94,18 +90,5 @@ impl fmt::Display for Hex<'_> {
             write!(f, " {b:02x}")?;
         }
         Ok(())
-    }
-}
-
-// The byte of the block that a command begins at.
-pub(crate) fn place_of(command: &Command<'_>) -> usize
-    ensures { result ≡ place_of command.now }
-{
-    match *command {
-        Command::Txn { at, .. } => at,
-        Command::Put { at, .. } => at,
-        Command::Del { at, .. } => at,
-        Command::Row { at, .. } => at,
-        Command::Gone { at, .. } => at,
     }
 }

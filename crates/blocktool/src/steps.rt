@@ -1,6 +1,6 @@
 // The steps of the tool: write, show, read back, change.
 use crate::script::{Script, Target};
-use crate::show::{Hex, Shown, place_of};
+use crate::show::{Hex, Shown};
 use anyhow::anyhow;
 use block::command::Commands;
 use block::reader::read;
@@ -23,14 +23,9 @@ fn show_block(rt: &HostRuntime, block: &[u8; 512]) -> anyhow::Result<()> {
     Ok(())
 }
 
-fn show_commands(rt: &HostRuntime, mut commands: Commands<'_>) -> anyhow::Result<()> {
-    // A block has room for at most 55 commands.
-    for _ in 0..56usize {
-        let Some(command) = commands.next() else {
-            break;
-        };
-        let at = place_of(&command);
-        println!(rt; "  byte {at:3}: {}", Shown(command.entry()))?;
+fn show_commands(rt: &HostRuntime, commands: Commands<'_>) -> anyhow::Result<()> {
+    for command in commands {
+        println!(rt; "  byte {:3}: {}", command.place(), Shown(command.entry()))?;
     }
     Ok(())
 }

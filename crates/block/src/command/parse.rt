@@ -1,37 +1,24 @@
 // From bytes to commands.
-ghost use Rattle.std.specs.Prelude.{◌≡◌, ◌+◌, ◌<◌, ◌≤◌, length, take, drop, IfSome};
+ghost use Rattle.std.specs.Prelude.{◌≡◌, ◌↔◌, ◌+◌, ◌<◌, ◌≤◌, length, take, drop, IfSome, IsSome};
 ghost use Rattle.std.specs.Int.{w64};
 ghost use Rattle.std.proofs.Common.{to_z};
 ghost use Rattle.base.specs.Bytes.{be_at};
 ghost use Rattle.std.specs.Option.{option_map};
-ghost use Rattle.block.specs.Commands.{value_of, place_of, pending, place, taken};
+ghost use Rattle.block.specs.Commands.{value_of, place_of, place};
 ghost use Rattle.block.specs.Format.{size_of};
-ghost use Rattle.block.specs.Parsing.{first_entry, head_of, tail_of};
+ghost use Rattle.block.specs.Parsing.{first_entry};
 
 use super::{Command, Commands};
 use crate::entry::{DEL, Entry, GONE, PUT, ROW, TXN};
+use crate::sizes::COMMANDS;
 use base::key::Key;
 
-// The bytes of a number of 64 bits.
-fn eight(bytes: &[u8], at: usize) -> &[u8; 8]
-    requires { at + 8 ≤ length bytes.now }
-    ensures { result.now ≡ take 8 (drop at bytes.now) }
+// So many bytes from one place on, if they are there.
+fn part<const N: usize>(bytes: &[u8], at: usize) -> Option<&[u8; N]>
+    ensures part { IfSome result (λ found. found.now ≡ take N (drop at bytes.now)) }
+    ensures there { IsSome result ↔ (at + N ≤ length bytes.now) }
 {
-    match bytes[at..at + 8].first_chunk::<8>() {
-        Some(part) => part,
-        None => unreachable(),
-    }
-}
-
-// The bytes of a code.
-fn sixteen(bytes: &[u8], at: usize) -> &[u8; 16]
-    requires { at + 16 ≤ length bytes.now }
-    ensures { result.now ≡ take 16 (drop at bytes.now) }
-{
-    match bytes[at..at + 16].first_chunk::<16>() {
-        Some(part) => part,
-        None => unreachable(),
-    }
+    bytes.get(at..)?.first_chunk::<N>()
 }
 
 // The command that the bytes begin with, if its first byte is known and all its bytes are there.
@@ -40,80 +27,47 @@ fn parse<'a>(rest: &'a [u8], at: usize) -> Option<Command<'a>>
     ensures place { IfSome result (λ c. place_of c ≡ at) }
     ensures fits { IfSome result (λ c. size_of (value_of c) ≤ length rest.now) }
 {
-    if rest.is_empty() {
-        return None;
-    }
-    let len = rest.len();
-    match rest[0] {
-        TXN => {
-            if len < 9 {
-                return None;
-            }
-            Some(Command::Txn {
-                at,
-                tid: eight(rest, 1),
-            })
-        }
-        PUT => {
-            if len < 26 {
-                return None;
-            }
-            Some(Command::Put {
-                at,
-                kind: rest[1],
-                code: sixteen(rest, 2),
-                value: eight(rest, 18),
-            })
-        }
-        DEL => {
-            if len < 18 {
-                return None;
-            }
-            Some(Command::Del {
-                at,
-                kind: rest[1],
-                code: sixteen(rest, 2),
-            })
-        }
-        ROW => {
-            if len < 34 {
-                return None;
-            }
-            Some(Command::Row {
-                at,
-                tid: eight(rest, 1),
-                kind: rest[9],
-                code: sixteen(rest, 10),
-                value: eight(rest, 26),
-            })
-        }
-        GONE => {
-            if len < 26 {
-                return None;
-            }
-            Some(Command::Gone {
-                at,
-                tid: eight(rest, 1),
-                kind: rest[9],
-                code: sixteen(rest, 10),
-            })
-        }
+    match *rest.first()? {
+        TXN => Some(Command::Txn {
+            at,
+            tid: part(rest, 1)?,
+        }),
+        PUT => Some(Command::Put {
+            at,
+            kind: *rest.get(1)?,
+            code: part(rest, 2)?,
+            value: part(rest, 18)?,
+        }),
+        DEL => Some(Command::Del {
+            at,
+            kind: *rest.get(1)?,
+            code: part(rest, 2)?,
+        }),
+        ROW => Some(Command::Row {
+            at,
+            tid: part(rest, 1)?,
+            kind: *rest.get(9)?,
+            code: part(rest, 10)?,
+            value: part(rest, 26)?,
+        }),
+        GONE => Some(Command::Gone {
+            at,
+            tid: part(rest, 1)?,
+            kind: *rest.get(9)?,
+            code: part(rest, 10)?,
+        }),
         _ => None,
     }
 }
 
+// The number that eight bytes spell.
 fn number(bytes: &[u8; 8]) -> u64
     ensures { result ≡ be_at 8 0 bytes.now }
 {
     u64::from_be_bytes(*bytes)
 }
 
-fn seconds(bytes: &[u8; 8]) -> i64
-    ensures { result ≡ to_z w64 (be_at 8 0 bytes.now) }
-{
-    i64::from_be_bytes(*bytes)
-}
-
+// A key by its kind and the sixteen bytes of its code.
 fn key(kind: u8, code: &[u8; 16]) -> Key
     ensures { result ≡ record { kind = kind; code = be_at 16 0 code.now } }
 {
@@ -124,6 +78,19 @@ fn key(kind: u8, code: &[u8; 16]) -> Key
 }
 
 impl Command<'_> {
+    // The byte of the block that it begins at.
+    pub fn place(&self) -> usize
+        ensures { result ≡ place_of self.now }
+    {
+        match *self {
+            Command::Txn { at, .. }
+            | Command::Put { at, .. }
+            | Command::Del { at, .. }
+            | Command::Row { at, .. }
+            | Command::Gone { at, .. } => at,
+        }
+    }
+
     // Its values.
     pub fn entry(&self) -> Entry
         ensures { result ≡ value_of self.now }
@@ -137,7 +104,7 @@ impl Command<'_> {
                 ..
             } => Entry::Put {
                 key: key(kind, code),
-                value: seconds(value),
+                value: i64::from_be_bytes(*value),
             },
             Command::Del { kind, code, .. } => Entry::Del {
                 key: key(kind, code),
@@ -151,7 +118,7 @@ impl Command<'_> {
             } => Entry::Row {
                 tid: number(tid),
                 key: key(kind, code),
-                value: seconds(value),
+                value: i64::from_be_bytes(*value),
             },
             Command::Gone {
                 tid,
@@ -164,18 +131,6 @@ impl Command<'_> {
             },
         }
     }
-
-    fn size(&self) -> usize
-        ensures { result ≡ size_of (value_of self.now) }
-    {
-        match *self {
-            Command::Txn { .. } => 9,
-            Command::Put { .. } => 26,
-            Command::Del { .. } => 18,
-            Command::Row { .. } => 34,
-            Command::Gone { .. } => 26,
-        }
-    }
 }
 
 impl<'a> Commands<'a> {
@@ -183,34 +138,35 @@ impl<'a> Commands<'a> {
     pub(crate) fn over(bytes: &'a [u8]) -> Commands<'a>
         requires { length bytes.now ≤ 502 }
         ensures rest { result.rest.now ≡ bytes.now }
-        ensures end { result.«end» ≡ 8 + length bytes.now }
+        ensures place { place result ≡ 8 }
     {
         Commands {
             rest: bytes,
-            end: 8 + bytes.len(),
+            at: COMMANDS,
         }
     }
+}
 
-    fn place(&self) -> usize
-        ensures { result ≡ place self.now }
-    {
-        self.end.saturating_sub(self.rest.len())
-    }
+impl<'a> Iterator for Commands<'a> {
+    ghost use Rattle.std.specs.Iterator.{item_count};
+    ghost use Rattle.block.specs.Commands.{pending, GivesNext};
+
+    type Item = Command<'a>;
 
     // The next command; none at the end, or where no command begins.
-    pub fn next(&mut self) -> Option<Command<'a>>
-        ensures answer { option_map value_of result ≡ head_of (pending self.old) }
-        ensures after { pending self.new ≡ tail_of (pending self.old) }
-        ensures place { IfSome result (λ c. place_of c ≡ place self.old) }
-        ensures end { self.new.«end» ≡ self.old.«end» }
-        ensures rest { self.new.rest.now ≡ drop (taken (option_map value_of result)) self.old.rest.now }
-        ensures enough { taken (option_map value_of result) ≤ length self.old.rest.now }
-    {
-        let rest = self.rest;
-        let Some(command) = parse(rest, self.place()) else {
-            return None;
+    ghost next_gives = { GivesNext };
+
+    ghost remaining = { item_count pending };
+
+    #[tactic(auto, using(crate::proofs::Entries::entries_none, crate::proofs::Entries::entries_some))]
+    fn next(&mut self) -> Option<Command<'a>> {
+        let command = parse(self.rest, self.at)?;
+        let size = command.entry().size();
+        let (_, rest) = self.rest.split_at(size);
+        *self = Commands {
+            rest,
+            at: self.at + size,
         };
-        self.rest = &rest[command.size()..];
         Some(command)
     }
 }

@@ -1,5 +1,0 @@
-use Rattle.block.proofs.Laying.{part_from}
-use Rattle.block.proofs.command.parse.eight.Goals as goal
-
-pub returns : goal.returns
-returns c = part_from c.args.bytes.now _ c.args.at 8 c.in-Some.ensures.cases.same
