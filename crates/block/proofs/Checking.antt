@@ -1,7 +1,10 @@
 -- What each check of a block finds.
-use Rattle.std.proofs.Common.{◌≡◌, ℕ, ◌+◌, ◌<◌, ◌≤◌, cond, eqb, List, length, get_or, take, drop, Some, None, Option, sym, ap, ◌∙◌, arith}
+use Rattle.std.proofs.Common.{◌≡◌, ℕ, ◌+◌, ◌<◌, ◌≤◌, cond, eqb, ltb, List, length, get_or, take, drop, Some, None, Ok, Err, Option, Result, sym, ap, ◌∙◌, arith}
 use Rattle.std.proofs.lemmas.List.{at_drop_more, at_drop_all, get_or-take, get_or-drop}
 use Rattle.std.proofs.lemmas.Bool.{eq-eqb, ne_eqb}
+use Rattle.std.proofs.lemmas.Bool.Decides.{nat_tests}
+use Rattle.base.specs.declared.refusal.Refusal.{Refusal}
+use Rattle.base.specs.declared.refusal.Refusal.TheVariants.{NoSuchIndex}
 use Rattle.block.specs.Checks.{nonzero}
 
 pub sum_same : (x y a b i : ℕ) → a ≡ x → b ≡ y → a ≡ b → ◌≡◌ {A = Option ℕ} None (cond (eqb x y) None (Some i))
@@ -25,3 +28,7 @@ module _ (at : ℕ) (xs : List ℕ) (i : ℕ) where
 -- a byte of a part
 pub byte_at : (n i j : ℕ) (xs : List ℕ) → j < n → get_or (take n (drop i xs)) j 0 ≡ get_or xs (i + j) 0
 byte_at n i j xs lt = get_or-take n (drop i xs) j 0 lt ∙ get_or-drop i xs j 0
+
+-- a file that is refused or not by its number
+pub listed_file : (file : ℕ) → ◌≡◌ {A = Result (Unit {0}) Refusal} (Ok tt) (cond (ltb 7 file) (Err NoSuchIndex) (Ok tt)) → file ≤ 7
+listed_file file h = grind (arith, nat_tests)

@@ -29,16 +29,16 @@ module _ (file number : ℕ) (w : Way) (e : Entry) (es rest : List Entry) (is : 
   unfolding unwritable
   step = ap (unwritable file number w) is
 
-  pub stop_faulty : (f : BlockFault) → Some f ≡ entry_fault file number last_epoch w e → unwritable file number w es ≡ Some (Faulty f)
-  stop_faulty f g = step ∙ ap (λ o. unless_faulty o on) (sym g)
+  pub stop_faulty : (f : BlockFault) → entry_fault file number last_epoch w e ≡ Some f → unwritable file number w es ≡ Some (Faulty f)
+  stop_faulty f g = step ∙ ap (λ o. unless_faulty o on) g
 
-  pub stop_full : None ≡ entry_fault file number last_epoch w e → leb (w.at + size_of e) 510 ≡ false → unwritable file number w es ≡ Some (Refused NoRoomInBlock)
-  stop_full g f = step ∙ ap (λ o. unless_faulty o on) (sym g) ∙ ap (λ t. cond t (unwritable file number (onward w e) rest) (Some (Refused NoRoomInBlock))) f
+  pub stop_full : entry_fault file number last_epoch w e ≡ None → leb (w.at + size_of e) 510 ≡ false → unwritable file number w es ≡ Some (Refused NoRoomInBlock)
+  stop_full g f = step ∙ ap (λ o. unless_faulty o on) g ∙ ap (λ t. cond t (unwritable file number (onward w e) rest) (Some (Refused NoRoomInBlock))) f
 
-  pub go_on : (v : Way) → v ≡ onward w e → None ≡ entry_fault file number last_epoch w e → leb (w.at + size_of e) 510 ≡ true → unwritable file number v rest ≡ unwritable file number w es
+  pub go_on : (v : Way) → v ≡ onward w e → entry_fault file number last_epoch w e ≡ None → leb (w.at + size_of e) 510 ≡ true → unwritable file number v rest ≡ unwritable file number w es
   go_on v o g f =
       ap (λ x. unwritable file number x rest) o
-      ∙ sym (step ∙ ap (λ q. unless_faulty q on) (sym g) ∙ ap (λ t. cond t (unwritable file number (onward w e) rest) (Some (Refused NoRoomInBlock))) f)
+      ∙ sym (step ∙ ap (λ q. unless_faulty q on) g ∙ ap (λ t. cond t (unwritable file number (onward w e) rest) (Some (Refused NoRoomInBlock))) f)
 
 -- a draft's answer tells whether the command fits
 abbrev pub_answer : Bool → ℕ → Result ℕ Refusal

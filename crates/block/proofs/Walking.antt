@@ -17,15 +17,15 @@ no_head [] h = refl
 no_head (x ∷ es) h = let z : ◌≡◌ {A = ℕ} 0 1 = cc in absurd (omega arith)
 
 module _ (file number marked : ℕ) (w : Way) where
-  pub walk_fault : (es : List Entry) (e : Entry) (f : BlockFault) → Some e ≡ head_of es → Some f ≡ entry_fault file number marked w e → walk file number marked w es ≡ Err f
+  pub walk_fault : (es : List Entry) (e : Entry) (f : BlockFault) → Some e ≡ head_of es → entry_fault file number marked w e ≡ Some f → walk file number marked w es ≡ Err f
   unfolding walk
-  walk_fault es e f h g = ap (walk file number marked w) (split_head es e h) ∙ ap (λ o. step_on o (walk file number marked (onward w e) (tail_of es))) (sym g)
+  walk_fault es e f h g = ap (walk file number marked w) (split_head es e h) ∙ ap (λ o. step_on o (walk file number marked (onward w e) (tail_of es))) g
 
-  pub walk_on : (es fs : List Entry) (e : Entry) (v : Way) → Some e ≡ head_of es → fs ≡ tail_of es → v ≡ onward w e → None ≡ entry_fault file number marked w e → walk file number marked v fs ≡ walk file number marked w es
+  pub walk_on : (es fs : List Entry) (e : Entry) (v : Way) → Some e ≡ head_of es → fs ≡ tail_of es → v ≡ onward w e → entry_fault file number marked w e ≡ None → walk file number marked v fs ≡ walk file number marked w es
   unfolding walk
   walk_on es fs e v h t o g =
       (λ i. walk file number marked (o i) (t i))
-      ∙ sym (ap (walk file number marked w) (split_head es e h) ∙ ap (λ q. step_on q (walk file number marked (onward w e) (tail_of es))) (sym g))
+      ∙ sym (ap (walk file number marked w) (split_head es e h) ∙ ap (λ q. step_on q (walk file number marked (onward w e) (tail_of es))) g)
 
   pub walk_end : (es : List Entry) → None ≡ head_of es → walk file number marked w es ≡ Ok w
   unfolding walk

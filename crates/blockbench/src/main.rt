@@ -5,6 +5,7 @@
 use anyhow::{Context, anyhow};
 use base::key::Key;
 use base::tid::tid_of;
+use block::address::Address;
 use block::entry::Entry;
 use block::reader::read;
 use block::writer::{WriteError, write_block};
@@ -67,14 +68,14 @@ fn write_many(entries: &[Entry], rounds: u32) -> Tally {
         digest: 0,
     };
     for number in 0..rounds {
-        tally = tally.add(sum_of(write_block(0, number, entries)));
+        tally = tally.add(sum_of(write_block(Address { file: 0, number }, entries)));
     }
     tally
 }
 
 // The writes of a block, by the codes of their keys; 0 where the block is not read.
 fn codes_of(block: &[u8; 512], number: u32) -> u64 {
-    let Ok(mut commands) = read(block, 0, number, 1_000_000) else {
+    let Ok(mut commands) = read(block, Address { file: 0, number }, 1_000_000) else {
         return 0;
     };
     let mut all = 0u64;
@@ -92,7 +93,7 @@ fn codes_of(block: &[u8; 512], number: u32) -> u64 {
 fn some_blocks(heap: Global, entries: &[Entry]) -> Result<Vec<[u8; 512]>, AllocError> {
     let mut blocks = Vec::new(heap);
     for number in 0..BLOCKS {
-        if let Ok(block) = write_block(0, number, entries) {
+        if let Ok(block) = write_block(Address { file: 0, number }, entries) {
             blocks.push(block)?;
         }
     }
@@ -128,7 +129,7 @@ fn digest_many(entries: &[Entry], rounds: u32) -> Tally {
         digest: 0,
     };
     for number in 0..rounds {
-        if let Ok(block) = write_block(0, number, entries) {
+        if let Ok(block) = write_block(Address { file: 0, number }, entries) {
             tally = tally.add(bytes_digest(&block));
         }
     }

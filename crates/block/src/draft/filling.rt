@@ -8,11 +8,11 @@ ghost use Rattle.block.specs.Format.{header, key_bytes, value_bytes, bytes_of, s
 ghost use Rattle.base.specs.Bytes.{be};
 
 use super::Draft;
+use crate::address::Address;
 use crate::entry::{DEL, Entry, GONE, PUT, ROW, TXN};
 use crate::fletcher::fletcher16;
 use crate::sizes::{BLOCK, COMMANDS, ROOM, SUM, TAG};
 use base::key::Key;
-use base::limits::FILES;
 use base::refusal::Refusal;
 
 impl Draft {
@@ -128,20 +128,18 @@ impl Draft {
     }
 
     // The block of these commands, for a place in a file.
-    pub fn seal(&self, file: u8, number: u32) -> Result<[u8; 512], Refusal>
-        ensures { result ≡ seal_answer file number (written self.now) }
+    pub fn seal(&self, at: Address) -> Result<[u8; 512], Refusal>
+        ensures { result ≡ seal_answer at.file at.number (written self.now) }
     {
-        if file as usize >= FILES {
-            return Err(Refusal::NoSuchIndex);
-        }
-        Ok(self.image(file, number))
+        at.check_file()?;
+        Ok(self.image(at))
     }
 
-    pub(crate) fn image(&self, file: u8, number: u32) -> [u8; 512]
-        ensures { result ≡ sealed file number (written self.now) }
+    pub(crate) fn image(&self, at: Address) -> [u8; 512]
+        ensures { result ≡ sealed at.file at.number (written self.now) }
     {
         let mut block = self.bytes;
-        block[0..COMMANDS].copy_from_slice(&head(file, self.used as u16, number));
+        block[0..COMMANDS].copy_from_slice(&head(at, self.used as u16));
         let sum = sum_bytes(&block);
         block[SUM..BLOCK].copy_from_slice(&sum);
         block
@@ -161,12 +159,12 @@ fn sum_bytes(block: &[u8; 512]) -> [u8; 2]
     fletcher16(&block[0..SUM]).to_be_bytes()
 }
 
-fn head(file: u8, n: u16, number: u32) -> [u8; 8]
-    ensures { result ≡ header file n number }
+fn head(at: Address, n: u16) -> [u8; 8]
+    ensures { result ≡ header at.file n at.number }
 {
     let n = n.to_be_bytes();
-    let number = number.to_be_bytes();
+    let number = at.number.to_be_bytes();
     [
-        TAG, file, n[0], n[1], number[0], number[1], number[2], number[3],
+        TAG, at.file, n[0], n[1], number[0], number[1], number[2], number[3],
     ]
 }
