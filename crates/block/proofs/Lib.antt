@@ -5,6 +5,5 @@ pub mod Entries
 pub mod Fills
 pub mod Laying
 pub mod Sealing
-pub mod Summing
 pub mod Verdicts
 pub mod Walking

@@ -67,12 +67,8 @@ fn nonzero(at: u16, padding: &[u8]) -> Option<u16>
     requires { at + length padding.now ≤ 510 }
     ensures { result ≡ nonzero at padding.now }
 {
-    for (i, b) in padding.iter().enumerate() {
-        if *b != 0 {
-            return Some(at + i as u16);
-        }
-    }
-    None
+    let i = padding.iter().position(|b| *b != 0)?;
+    Some(at + i as u16)
 }
 
 // The number of command bytes, once the header is right.
