@@ -1,20 +1,13 @@
 -- What each check of a block finds.
-use Rattle.std.proofs.Common.{◌≡◌, ℕ, ◌+◌, ◌<◌, ◌≤◌, Bool, true, false, cond, not, eqb, ltb, List, [], ◌∷◌, refl, length, get_or, take, drop, Some, None, Ok, Err, Option, Result, sym, ap, ◌∙◌, arith}
+use Rattle.std.proofs.Common.{◌≡◌, ℕ, ◌+◌, ◌<◌, ◌≤◌, Bool, true, false, cond, not, eqb, ltb, List, [], ◌∷◌, refl, length, get_or, take, drop, Some, None, Ok, Err, Option, Result, ap, ◌∙◌, arith}
 use Rattle.std.specs.Option.{option_map}
 use Rattle.std.specs.List.{position_from, position_or_len}
 use Rattle.std.proofs.lemmas.Iterator.Adapters.{position_from-zero}
 use Rattle.std.proofs.lemmas.List.{get_or-take, get_or-drop}
-use Rattle.std.proofs.lemmas.Bool.{eq-eqb, ne_eqb}
 use Rattle.std.proofs.lemmas.Bool.Decides.{nat_tests}
 use Rattle.base.specs.declared.refusal.Refusal.{Refusal}
 use Rattle.base.specs.declared.refusal.Refusal.TheVariants.{NoSuchIndex}
 use Rattle.block.specs.Checks.{nonzero}
-
-pub sum_same : (x y a b i : ℕ) → a ≡ x → b ≡ y → a ≡ b → ◌≡◌ {A = Option ℕ} None (cond (eqb x y) None (Some i))
-sum_same x y a b i e f h = ap (λ t. cond t None (Some i)) (sym (eq-eqb x y (sym e ∙ h ∙ f)))
-
-pub sum_other : (x y a b i : ℕ) → a ≡ x → b ≡ y → (a ≡ b → ⊥) → ◌≡◌ {A = Option ℕ} (Some i) (cond (eqb x y) None (Some i))
-sum_other x y a b i e f h = ap (λ t. cond t None (Some i)) (sym (ne_eqb x y (λ s. h (e ∙ s ∙ sym f))))
 
 -- the first byte that is not zero, by its place among the bytes
 nonzero_place : (at i : ℕ) (bs : List ℕ) → option_map (λ k. at + k) (position_from (λ b. not (eqb b 0)) i bs) ≡ nonzero (at + i) bs

@@ -1,6 +1,7 @@
 -- A command and its bytes give each other back.
+use Rattle.std.specs.Prelude.{All}
 use Rattle.std.proofs.Common.{◌≡◌, ℕ, zero, suc, ◌+◌, ◌^◌, ◌<◌, ◌≤◌, Bool, true, false, cond, eqb, leb, ◌⊎◌, List, [], ◌∷◌, ◌++◌, length, get_or, take, drop, ℤ, pos, negsuc, Some, None, Option, sym, refl, ap, ◌∙◌, subst, inl, inr, ⊎_elim, arith, length-drop, take-add, w64, SFits, to_z, of_z}
-use Rattle.std.specs.List.{AllByRecursion}
+use Rattle.std.proofs.lemmas.List.Elements.{All-head, All-tail}
 use Rattle.std.proofs.lemmas.List.{drop_at, drop_more, drop-drop, length-take-le, take-take}
 use Rattle.std.proofs.lemmas.Int.{to_z-of_z, of_z-to_z}
 use Rattle.std.proofs.lemmas.Bool.{le-leb, leb-true, eqb-true}
@@ -59,12 +60,12 @@ first_back (Gone tid key) rest h =
     ∙ (λ i. Some (Gone (number_back 8 tid h.0 i) (record { kind = key.kind; code = number_back 16 key.code h.1 i })))
 
 -- the bytes of commands are read as these commands
-pub entries_back : (es : List Entry) → AllByRecursion Fields es → entries (content es) ≡ es
+pub entries_back : (es : List Entry) → All Fields es → entries (content es) ≡ es
 entries_back [] h = entries_none [] refl
 entries_back (e ∷ es) h =
-    entries_some (bytes_of e ++ content es) e (first_back e (content es) h.0)
+    entries_some (bytes_of e ++ content es) e (first_back e (content es) (All-head Fields e es h))
     ∙ ap (λ l. e ∷ entries l) (drop_at (bytes_of e) (content es) (size_of e) (length_bytes e))
-    ∙ ap (λ l. e ∷ l) (entries_back es h.1)
+    ∙ ap (λ l. e ∷ l) (entries_back es (All-tail Fields e es h))
 
 -- which of two ways a test took
 chosen : {A : Type 0} (b : Bool) (x y z : A) → cond b x y ≡ z → ((b ≡ true) × (x ≡ z)) ⊎ ((b ≡ false) × (y ≡ z))

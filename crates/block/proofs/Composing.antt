@@ -11,7 +11,8 @@ use Rattle.block.specs.declared.entry.Entry.{Entry}
 use Rattle.block.specs.declared.way.Way.{Way}
 use Rattle.block.specs.declared.writer.WriteError.{WriteError}
 use Rattle.block.specs.declared.writer.WriteError.TheVariants.{Refused, Faulty}
-use Rattle.std.specs.List.{AllByRecursion}
+use Rattle.std.specs.Prelude.{All}
+use Rattle.std.proofs.lemmas.List.Elements.{All-head, All-tail}
 use Rattle.base.specs.Tids.{epoch_of}
 use Rattle.block.specs.declared.entry.Entry.TheVariants.{Txn, Put, Del, Row, Gone}
 use Rattle.block.specs.Checks.{start, onward, entry_fault, first_some, fault, fault_at, wrong_field, wrong_row, epoch_after, walk, step_on}
@@ -104,11 +105,11 @@ fits_none true q h = h
 fits_none false q h = let z : ◌≡◌ {A = ℕ} 0 1 = cc in absurd (omega arith)
 
 -- what can be written has no fault under an epoch that reaches its rows
-pub sound_under : (file number marked : ℕ) (w : Way) (es : List Entry) → unwritable file number w es ≡ None → AllByRecursion (Reached marked) es → is_ok (walk file number marked w es) ≡ true
+pub sound_under : (file number marked : ℕ) (w : Way) (es : List Entry) → unwritable file number w es ≡ None → All (Reached marked) es → is_ok (walk file number marked w es) ≡ true
 unfolding unwritable walk
 sound_under file number marked w [] h r = refl
 sound_under file number marked w (e ∷ es) h r =
     let p = faulty_none (entry_fault file number last_epoch w e) _ h in
     let q = fits_none (leb (w.at + size_of e) 510) _ p.1 in
-    ap (λ o. is_ok (step_on o (walk file number marked (onward w e) es))) (reached_entry file number marked w e p.0 r.0)
-    ∙ sound_under file number marked (onward w e) es q r.1
+    ap (λ o. is_ok (step_on o (walk file number marked (onward w e) es))) (reached_entry file number marked w e p.0 (All-head (Reached marked) e es r))
+    ∙ sound_under file number marked (onward w e) es q (All-tail (Reached marked) e es r)

@@ -1,7 +1,8 @@
 -- A sealed block passes all checks, and what passes them is a sealed block.
+use Rattle.std.specs.Prelude.{All}
 use Rattle.std.proofs.Common.{◌≡◌, ℕ, zero, suc, ◌+◌, ◌-◌, ◌%◌, ◌^◌, ◌<◌, ◌≤◌, Bool, true, false, cond, not, ◌||◌, eqb, ltb, List, [], ◌∷◌, ◌++◌, length, get_or, take, drop, replicate, ℤ, pos, negsuc, is_ok, Some, None, Ok, Err, fold, Option, Result, sym, refl, ap, ◌∙◌, append_assoc, mod-lt, arith, length-append, length-drop, w64, SFits}
 use lib.ListN.{length-replicate}
-use Rattle.std.specs.List.{AllByRecursion}
+use Rattle.std.proofs.lemmas.List.Elements.{All-nil, All-cons, All-head, All-tail}
 use Rattle.std.proofs.lemmas.List.{take_at, drop_at, take_all, drop-drop, take-append-drop, length-take-le}
 use Rattle.std.proofs.lemmas.Bool.{le-ltb, eq-eqb, eqb-true}
 use Rattle.std.proofs.lemmas.Bool.Decides.{nat_tests}
@@ -110,12 +111,12 @@ fields_fit marked (Row tid key value) h c =
 fields_fit marked (Gone tid key) h c = (row_fits marked tid (both_none (wrong_row marked tid) (wrong_kind 9 key) h).0, c)
 
 -- commands without a fault fit their fields
-all_fields : (file number marked : ℕ) (w v : Way) (es : List Entry) → walk file number marked w es ≡ Ok v → AllByRecursion Coded es → AllByRecursion Fields es
+all_fields : (file number marked : ℕ) (w v : Way) (es : List Entry) → walk file number marked w es ≡ Ok v → All Coded es → All Fields es
 unfolding walk
-all_fields file number marked w v [] h c = tt
+all_fields file number marked w v [] h c = All-nil Fields
 all_fields file number marked w v (e ∷ es) h c =
     let p = step_ok (entry_fault file number marked w e) _ v h in
-    (fields_fit marked e (placed_fields file number marked w e p.0).1 c.0, all_fields file number marked (onward w e) v es p.1 c.1)
+    All-cons Fields e es (fields_fit marked e (placed_fields file number marked w e p.0).1 (All-head Coded e es c)) (all_fields file number marked (onward w e) v es p.1 (All-tail Coded e es c))
 
 came_through : (r : Result Way BlockFault) → is_ok r ≡ true → (v : Way) × (r ≡ Ok v)
 came_through (Ok v) h = (v, refl)

@@ -1,5 +1,5 @@
 // What may be wrong with a command, for the writer and the reader alike.
-ghost use Rattle.std.specs.Prelude.{◌≡◌, ◌+◌, ◌^◌, ◌<◌, ◌≤◌};
+ghost use Rattle.std.specs.Prelude.{◌≡◌, ◌+◌, ◌^◌, ◌<◌, ◌≤◌, OnOk};
 ghost use Rattle.block.specs.Checks.{placed, wrong_field, wrong_tid, wrong_row, wrong_kind, wrong_value, epoch_or, epoch_after, opens, start, onward, entry_fault, passed};
 ghost use Rattle.block.specs.Format.{size_of};
 ghost use Rattle.block.specs.Laws.{Coded};
@@ -40,7 +40,8 @@ fn wrong_row(marked: u32, tid: u64) -> Option<u16>
 }
 
 fn wrong_kind(at: u16, key: Key) -> Option<u16>
-    ensures { result ≡ wrong_kind at key }
+    ensures answer { result ≡ wrong_kind at key }
+    ensures coded { key.code < 2 ^ 128 }
 {
     (key.kind > LAST_KIND).then_some(at)
 }
@@ -53,7 +54,8 @@ fn wrong_value(at: u16, value: i64) -> Option<u16>
 
 // The first field of a command that is out of range, by its place in the command.
 fn wrong_field(marked: u32, what: &Entry) -> Option<u16>
-    ensures { result ≡ wrong_field marked what.now }
+    ensures answer { result ≡ wrong_field marked what.now }
+    ensures coded { Coded what.now }
 {
     match *what {
         Entry::Txn { tid } => wrong_tid(tid),
@@ -117,7 +119,8 @@ pub(crate) fn check_entry(
     what: &Entry,
 ) -> Result<(), BlockFault>
     requires { way.at ≤ 510 }
-    ensures { result ≡ passed tt (entry_fault at.file at.number marked way what.now) }
+    ensures answer { result ≡ passed tt (entry_fault at.file at.number marked way what.now) }
+    ensures coded { OnOk result (Coded what.now) }
 {
     if !is_placed(at.file, way.opened, what) {
         return Err(at.fault(Refusal::MisplacedCommand, way.at, way.epoch));
@@ -129,22 +132,5 @@ pub(crate) fn check_entry(
             way.at + i,
             epoch_after(way.epoch, what),
         )),
-    }
-}
-
-fn coded_key(key: Key)
-    ensures { key.code < 2 ^ 128 }
-{}
-
-// A code has 16 bytes by its type; this says so, for the proof of the writer, and does nothing.
-pub(crate) fn coded(what: &Entry)
-    ensures { Coded what.now }
-{
-    match *what {
-        Entry::Txn { .. } => {}
-        Entry::Put { key, .. } => coded_key(key),
-        Entry::Del { key } => coded_key(key),
-        Entry::Row { key, .. } => coded_key(key),
-        Entry::Gone { key, .. } => coded_key(key),
     }
 }

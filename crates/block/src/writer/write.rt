@@ -4,7 +4,7 @@ ghost use Rattle.block.specs.Writing.{write_answer, ReadsAsWritten};
 
 use super::WriteError;
 use crate::address::Address;
-use crate::checks::{check_entry, coded};
+use crate::checks::check_entry;
 use crate::draft::Draft;
 use crate::entry::Entry;
 use crate::way::Way;
@@ -21,7 +21,6 @@ pub fn write_block(at: Address, entries: &[Entry]) -> Result<[u8; 512], WriteErr
     for what in entries {
         check_entry(at, LAST_EPOCH as u32, way, what)?;
         draft.push(*what)?;
-        coded(what);
         way = way.onward(what);
     }
     Ok(draft.image(at))

@@ -14,7 +14,7 @@ pub returns-in_err-check_entry : goal.returns-in_err-check_entry
 returns-in_err-check_entry c =
     let p = err_from_is_err_and c.from_residual.result c.from_residual.ensures.1 in
     let first = ap (λ e. Some e) c.entry-what.ensures ∙ c.in-Some.ensures.answer in
-    let stops = walk_fault c.args.at.file c.args.at.number c.args.marked c.loop-command.way (pending c.loop-command.rest) c.entry-what.result c.in_err-check_entry.field-0.0 first (found tt _ _ c.in_err-check_entry.ensures) in
+    let stops = walk_fault c.args.at.file c.args.at.number c.args.marked c.loop-command.way (pending c.loop-command.rest) c.entry-what.result c.in_err-check_entry.field-0.0 first (found tt _ _ c.in_err-check_entry.ensures.answer) in
     p.1 ∙ ap (λ f. Err f) p.2 ∙ ap (λ r. passed tt (ended c.args.at.file c.args.at.number (8 + length c.args.bytes.now) r)) (sym stops ∙ c.loop-command.invariant.0)
 
 pub loop-command-smaller : goal.loop-command-smaller
@@ -25,7 +25,7 @@ loop-command-preserved c =
     let e = value_of c.in-Some.command in
     let next = c.in-Some.ensures in
     let first = ap (λ x. Some x) c.entry-what.ensures ∙ next.answer in
-    let on = walk_on c.args.at.file c.args.at.number c.args.marked c.loop-command.way (pending c.loop-command.rest) _ c.entry-what.result c.onward-way.result first next.after c.onward-way.ensures (clean tt tt _ c.in_ok-check_entry.ensures) in
+    let on = walk_on c.args.at.file c.args.at.number c.args.marked c.loop-command.way (pending c.loop-command.rest) _ c.entry-what.result c.onward-way.result first next.after c.onward-way.ensures (clean tt tt _ c.in_ok-check_entry.ensures.answer) in
     let at : c.onward-way.result.at ≡ c.loop-command.way.at + size_of e = ap (λ (w : Way). w.at) c.onward-way.ensures ∙ ap (λ x. c.loop-command.way.at + size_of x) c.entry-what.ensures in
     let end = same_end c.loop-command.rest.rest.now _ e c.loop-command.way.at next.rest next.enough in
     (on ∙ c.loop-command.invariant.0, omega (arith, c.loop-command.invariant.1))
