@@ -34,9 +34,7 @@ fn wrong_tid(tid: u64) -> Option<u16>
 fn wrong_row(marked: u32, tid: u64) -> Option<u16>
     ensures { result ≡ wrong_row marked tid }
 {
-    let epoch = epoch_of(tid);
-    let reached = epoch_fits(epoch) && epoch <= marked as u64;
-    (!reached).then_some(1)
+    wrong_tid(tid).or((epoch_of(tid) > marked as u64).then_some(1))
 }
 
 fn wrong_kind(at: u16, key: Key) -> Option<u16>

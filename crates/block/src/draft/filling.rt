@@ -57,29 +57,13 @@ impl Draft {
         self.used = self.used + N;
     }
 
-    fn append_tid(&mut self, tid: u64)
-        requires { self.old.used + 8 ≤ 502 }
-        ensures bytes { written self.new ≡ written self.old ++ be 8 tid }
-        ensures len { self.new.used ≡ self.old.used + 8 }
-    {
-        self.append(&tid.to_be_bytes());
-    }
-
     fn append_key(&mut self, key: Key)
         requires { self.old.used + 17 ≤ 502 }
         ensures bytes { written self.new ≡ written self.old ++ key_bytes key }
         ensures len { self.new.used ≡ self.old.used + 17 }
     {
         self.append(&[key.kind]);
-        self.append(&code_bytes(key.code));
-    }
-
-    fn append_value(&mut self, value: i64)
-        requires { self.old.used + 8 ≤ 502 }
-        ensures bytes { written self.new ≡ written self.old ++ value_bytes value }
-        ensures len { self.new.used ≡ self.old.used + 8 }
-    {
-        self.append(&value.to_be_bytes());
+        self.append(&key.code.to_be_bytes());
     }
 
     fn append_entry(&mut self, what: Entry)
@@ -90,12 +74,12 @@ impl Draft {
         match what {
             Entry::Txn { tid } => {
                 self.append(&[TXN]);
-                self.append_tid(tid);
+                self.append(&tid.to_be_bytes());
             }
             Entry::Put { key, value } => {
                 self.append(&[PUT]);
                 self.append_key(key);
-                self.append_value(value);
+                self.append(&value.to_be_bytes());
             }
             Entry::Del { key } => {
                 self.append(&[DEL]);
@@ -103,13 +87,13 @@ impl Draft {
             }
             Entry::Row { tid, key, value } => {
                 self.append(&[ROW]);
-                self.append_tid(tid);
+                self.append(&tid.to_be_bytes());
                 self.append_key(key);
-                self.append_value(value);
+                self.append(&value.to_be_bytes());
             }
             Entry::Gone { tid, key } => {
                 self.append(&[GONE]);
-                self.append_tid(tid);
+                self.append(&tid.to_be_bytes());
                 self.append_key(key);
             }
         }
@@ -140,23 +124,11 @@ impl Draft {
     {
         let mut block = self.bytes;
         block[0..COMMANDS].copy_from_slice(&head(at, self.used as u16));
-        let sum = sum_bytes(&block);
-        block[SUM..BLOCK].copy_from_slice(&sum);
+        // The sum goes over every byte before it, padding included.
+        let sum = fletcher16(&block[0..SUM]);
+        block[SUM..BLOCK].copy_from_slice(&sum.to_be_bytes());
         block
     }
-}
-
-fn code_bytes(code: u128) -> [u8; 16]
-    ensures { result ≡ be 16 code }
-{
-    code.to_be_bytes()
-}
-
-// The sum goes over every byte before it, padding included.
-fn sum_bytes(block: &[u8; 512]) -> [u8; 2]
-    ensures { result ≡ be 2 (sum_of (take 510 block.now)) }
-{
-    fletcher16(&block[0..SUM]).to_be_bytes()
 }
 
 fn head(at: Address, n: u16) -> [u8; 8]
