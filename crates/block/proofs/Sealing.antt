@@ -22,7 +22,7 @@ use Rattle.block.specs.Format.{bytes_of, content, header, summed, sealed}
 use Rattle.block.specs.Parsing.{entries}
 use Rattle.block.proofs.Coding.{length_bytes, entries_back, front_back, Fields, field_back, byte_field, parts, tag}
 use Rattle.block.proofs.Laying.{length-summed}
-use Rattle.block.proofs.Verdicts.{all_clean}
+use Rattle.block.proofs.Verdicts.{no_fault}
 
 -- the header's checks, over the numbers that they look at
 abbrev header_test : ℕ → ℕ → ℕ → ℕ → ℕ → ℕ → Option ℕ
@@ -189,7 +189,7 @@ block_reads_back file number marked bs es l is =
     let end : ended file number (8 + length cs) (Ok v) ≡ None = ap (λ t. cond t (Some (fault file number BadCommand v.at v.epoch)) None) (le-ltb v.at (8 + length cs) (omega arith)) in
     let commands : commands_fault file number marked (commands_in block) ≡ None = ap (commands_fault file number marked) (sealed_in file number cs l.room) ∙ ap (ended file number (8 + length cs)) walked ∙ end in
     ap (read_answer file number marked) is
-    ∙ sym (all_clean file number marked block
+    ∙ sym (no_fault file number marked block
     (ap (fault_at file number BadHeader 0 0) (sealed_header file number cs l.room l.listed l.numbered))
     (ap (fault_at file number BadSum 0 0) (sealed_summed file number cs l.room))
     (ap (fault_at file number BadPadding 0 0) (sealed_padded file number cs l.room))
