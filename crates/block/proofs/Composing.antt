@@ -1,7 +1,7 @@
 -- Writing one command after the other.
-use Rattle.std.proofs.Common.{◌≡◌, ℕ, ◌+◌, ◌<◌, ◌≤◌, Bool, true, false, cond, leb, List, [], ◌∷◌, ◌++◌, length, get_or, take, is_ok, Some, None, Ok, Err, Option, Result, sym, refl, ap, ◌∙◌, arith}
-use Rattle.std.proofs.lemmas.List.{take_more, flat_map_more}
-use Rattle.std.proofs.lemmas.Bool.{le-ltb}
+use Rattle.std.proofs.Common.{◌≡◌, ℕ, ◌+◌, ◌<◌, ◌≤◌, Bool, true, false, cond, leb, List, [], ◌∷◌, ◌++◌, length, get_or, take, drop, is_ok, Some, None, Ok, Err, Option, Result, sym, refl, ap, ◌∙◌, subst, arith, length-append}
+use Rattle.std.proofs.lemmas.List.{take_more, drop_more, flat_map_more}
+use Rattle.std.proofs.lemmas.Bool.{le-ltb, leb-true}
 use Rattle.std.proofs.lemmas.Bool.Decides.{nat_tests}
 use Rattle.base.specs.Limits.{last_epoch}
 use Rattle.base.specs.declared.fault.BlockFault.{BlockFault}
@@ -19,59 +19,79 @@ use Rattle.block.specs.Checks.{start, onward, entry_fault, first_some, fault, fa
 use Rattle.block.specs.Drafts.{push_answer, push_after}
 use Rattle.block.specs.Fitting.{fits, room}
 use Rattle.block.specs.Format.{bytes_of, size_of, content, block_of}
-use Rattle.block.specs.Writing.{unwritable, unless, unless_faulty, write_answer, Reached}
+use Rattle.block.specs.Writing.{unwritable, unless, unless_faulty, write_answer, Reached, ReadsAsWritten}
+use Rattle.block.proofs.Coding.{length_bytes}
+use Rattle.block.proofs.Verdicts.{Passes, Stops, found, clean}
 use Rattle.block.proofs.Sealing.{both_none, placed_fields}
 
-module _ (file number : ℕ) (w : Way) (e : Entry) (es rest : List Entry) (is : es ≡ e ∷ rest) where
-  abbrev on : Option WriteError
-  on = cond (leb (w.at + size_of e) 510) (unwritable file number (onward w e) rest) (Some (Refused NoRoomInBlock))
-
-  step : unwritable file number w es ≡ unless_faulty (entry_fault file number last_epoch w e) on
-  unfolding unwritable
-  step = ap (unwritable file number w) is
-
-  pub stop_faulty : (f : BlockFault) → entry_fault file number last_epoch w e ≡ Some f → unwritable file number w es ≡ Some (Faulty f)
-  stop_faulty f g = step ∙ ap (λ o. unless_faulty o on) g
-
-  pub stop_full : entry_fault file number last_epoch w e ≡ None → leb (w.at + size_of e) 510 ≡ false → unwritable file number w es ≡ Some (Refused NoRoomInBlock)
-  stop_full g f = step ∙ ap (λ o. unless_faulty o on) g ∙ ap (λ t. cond t (unwritable file number (onward w e) rest) (Some (Refused NoRoomInBlock))) f
-
-  pub go_on : (v : Way) → v ≡ onward w e → entry_fault file number last_epoch w e ≡ None → leb (w.at + size_of e) 510 ≡ true → unwritable file number v rest ≡ unwritable file number w es
-  go_on v o g f =
-      ap (λ x. unwritable file number x rest) o
-      ∙ sym (step ∙ ap (λ q. unless_faulty q on) g ∙ ap (λ t. cond t (unwritable file number (onward w e) rest) (Some (Refused NoRoomInBlock))) f)
-
 -- a draft's answer tells whether the command fits
-abbrev pub_answer : Bool → ℕ → Result ℕ Refusal
-pub_answer b n = cond b (Ok n) (Err NoRoomInBlock)
+abbrev answer_of : Bool → ℕ → Result ℕ Refusal
+answer_of b n = cond b (Ok n) (Err NoRoomInBlock)
 
-pushed_no : (b : Bool) (n : ℕ) (x : Refusal) → Err x ≡ pub_answer b n → (b ≡ false) × (x ≡ NoRoomInBlock)
+pushed_no : (b : Bool) (n : ℕ) (x : Refusal) → Err x ≡ answer_of b n → (b ≡ false) × (x ≡ NoRoomInBlock)
 pushed_no true n x h = let z : ◌≡◌ {A = ℕ} 0 1 = cc in absurd (omega arith)
 pushed_no false n x h = (refl, cc)
 
-pushed_yes : (b : Bool) (n m : ℕ) → Ok m ≡ pub_answer b n → b ≡ true
+pushed_yes : (b : Bool) (n m : ℕ) → Ok m ≡ answer_of b n → b ≡ true
 pushed_yes true n m h = refl
 pushed_yes false n m h = let z : ◌≡◌ {A = ℕ} 0 1 = cc in absurd (omega arith)
 
-module _ (cs : List ℕ) (e : Entry) (at : ℕ) (far : at ≡ 8 + length cs) where
-  same_room : leb (at + size_of e) 510 ≡ fits room (length cs) (size_of e)
-  same_room = grind (arith, nat_tests)
+-- command i, written into a block that holds the bytes cs
+module _ (file number : ℕ) (w : Way) (es : List Entry) (i : ℕ) (lt : i < length es) (cs : List ℕ) (far : w.at ≡ 8 + length cs) where
+  abbrev e : Entry
+  e = get_or es i (Txn 0)
 
-  pub push_no : (x : Refusal) → Err x ≡ push_answer cs e → (leb (at + size_of e) 510 ≡ false) × (x ≡ NoRoomInBlock)
-  push_no x h = let p = pushed_no (fits room (length cs) (size_of e)) (length cs + size_of e) x h in (same_room ∙ p.0, p.1)
+  abbrev wrong : Option BlockFault
+  wrong = entry_fault file number last_epoch w e
 
-  pub push_yes : (m : ℕ) → Ok m ≡ push_answer cs e → leb (at + size_of e) 510 ≡ true
-  push_yes m h = same_room ∙ pushed_yes (fits room (length cs) (size_of e)) (length cs + size_of e) m h
+  abbrev on : Bool → Option WriteError
+  on t = cond t (unwritable file number (onward w e) (drop (i + 1) es)) (Some (Refused NoRoomInBlock))
 
-  pub push_bytes : (ds : List ℕ) (m : ℕ) → Ok m ≡ push_answer cs e → ds ≡ push_after cs e → ds ≡ cs ++ bytes_of e
-  push_bytes ds m h d = d ∙ ap (λ t. cond t (cs ++ bytes_of e) cs) (pushed_yes (fits room (length cs) (size_of e)) (length cs + size_of e) m h)
+  step : unwritable file number w (drop i es) ≡ unless_faulty wrong (on (leb (w.at + size_of e) 510))
+  unfolding unwritable
+  step = ap (unwritable file number w) (drop_more es i (Txn 0) lt)
+
+  fitting : leb (w.at + size_of e) 510 ≡ fits room (length cs) (size_of e)
+  fitting = grind (arith, nat_tests)
+
+  pub stop_faulty : (f : BlockFault) → Stops f wrong → unwritable file number w (drop i es) ≡ Some (Faulty f)
+  stop_faulty f s = step ∙ ap (λ o. unless_faulty o (on (leb (w.at + size_of e) 510))) (found tt wrong f s)
+
+  pub stop_full : Passes wrong → (x : Refusal) → Err x ≡ push_answer cs e → unwritable file number w (drop i es) ≡ Some (Refused x)
+  stop_full p x h =
+      let no = pushed_no (fits room (length cs) (size_of e)) (length cs + size_of e) x h in
+      step ∙ (λ k. unless_faulty (clean tt tt wrong p k) (on ((fitting ∙ no.0) k))) ∙ ap (λ y. Some (Refused y)) (sym no.1)
+
+  pub go_on : Passes wrong → (n : ℕ) → Ok n ≡ push_answer cs e → (v : Way) → v ≡ onward w e → unwritable file number v (drop (i + 1) es) ≡ unwritable file number w (drop i es)
+  go_on p n h v o =
+      let yes = pushed_yes (fits room (length cs) (size_of e)) (length cs + size_of e) n h in
+      ap (λ x. unwritable file number x (drop (i + 1) es)) o ∙ sym (step ∙ (λ k. unless_faulty (clean tt tt wrong p k) (on ((fitting ∙ yes) k))))
+
+-- a draft that took a command holds its bytes, and had room for them
+module _ (cs ds : List ℕ) (e : Entry) (n : ℕ) (took : Ok n ≡ push_answer cs e) (after : ds ≡ push_after cs e) where
+  fitted : fits room (length cs) (size_of e) ≡ true
+  fitted = pushed_yes (fits room (length cs) (size_of e)) (length cs + size_of e) n took
+
+  pub push_bytes : ds ≡ cs ++ bytes_of e
+  push_bytes = after ∙ ap (λ t. cond t (cs ++ bytes_of e) cs) fitted
+
+  pub push_length : length ds ≡ length cs + size_of e
+  push_length = omega (arith, ap length push_bytes, length-append cs (bytes_of e), length_bytes e)
+
+  pub push_room : length ds ≤ 502
+  push_room = omega (arith, push_length, leb-true (length cs + size_of e) 502 fitted)
 
 -- the commands up to one more
 pub content_more : (es : List Entry) (i : ℕ) (d : Entry) → i < length es → content (take i es) ++ bytes_of (get_or es i d) ≡ content (take (i + 1) es)
 content_more es i d lt = flat_map_more bytes_of [] (take i es) (get_or es i d) ∙ ap content (sym (take_more es i d lt))
 
-pub refused_with : (file number : ℕ) (es : List Entry) (x : WriteError) → file ≤ 7 → unwritable file number start es ≡ Some x → Err x ≡ write_answer file number es
-refused_with file number es x low h = sym ((λ i. cond (le-ltb 7 file low i) (Err (Refused NoSuchIndex)) (unless (h i) (block_of file number es))))
+-- an answer that gives a reason is the writer's, and says nothing of reading
+module _ (file number : ℕ) (es : List Entry) (r : Result (List ℕ) WriteError) (x : WriteError) (is : r ≡ Err x) where
+  pub refused_with : file ≤ 7 → unwritable file number start es ≡ Some x → r ≡ write_answer file number es
+  refused_with low h = is ∙ sym ((λ i. cond (le-ltb 7 file low i) (Err (Refused NoSuchIndex)) (unless (h i) (block_of file number es))))
+
+  pub no_block : ReadsAsWritten file number es r
+  no_block = subst (λ q. ReadsAsWritten file number es q) (sym is) tt
 
 pub written_as : (file number : ℕ) (es : List Entry) → file ≤ 7 → unwritable file number start es ≡ None → Ok (block_of file number es) ≡ write_answer file number es
 written_as file number es low h = sym ((λ i. cond (le-ltb 7 file low i) (Err (Refused NoSuchIndex)) (unless (h i) (block_of file number es))))
