@@ -75,7 +75,7 @@ chosen false x y z h = inr (refl, h)
 all_there : (x e : Entry) (bs : List ℕ) → whole x bs ≡ Some e → (x ≡ e) × (size_of x ≤ length bs)
 all_there x e bs h =
     ⊎_elim (λ p. ((let s : x ≡ e = (let q = p.1 in cc) in s), leb-true (size_of x) (length bs) p.0))
-    (λ p. absurd (let q = p.1 in let z : ◌≡◌ {A = ℕ} 0 1 = cc in omega arith))
+    (λ p. (let q = p.1 in cc))
     (chosen (leb (size_of x) (length bs)) (Some x) None (Some e) h)
 
 module _ (bs : List ℕ) (small : Bytes bs) where
@@ -140,7 +140,7 @@ module _ (bs : List ℕ) (small : Bytes bs) where
       (λ q. ⊎_elim (λ r. from (Del (key_at 1 2 bs)) e r.1 (del_back (eqb-true _ _ r.0)))
       (λ r. ⊎_elim (λ s. from (Row (number_at 8 1 bs) (key_at 9 10 bs) (value_at 26 bs)) e s.1 (row_back (eqb-true _ _ s.0)))
       (λ s. ⊎_elim (λ t. from (Gone (number_at 8 1 bs) (key_at 9 10 bs)) e t.1 (gone_back (eqb-true _ _ t.0)))
-      (λ t. absurd (let n = t.1 in let z : ◌≡◌ {A = ℕ} 0 1 = cc in omega arith))
+      (λ t. (let n = t.1 in cc))
       (chosen (eqb (get_or bs 0 0) 5) _ _ _ s.1))
       (chosen (eqb (get_or bs 0 0) 4) _ _ _ r.1))
       (chosen (eqb (get_or bs 0 0) 3) _ _ _ q.1))

@@ -29,12 +29,12 @@ abbrev answer_of : Bool → ℕ → Result ℕ Refusal
 answer_of b n = cond b (Ok n) (Err NoRoomInBlock)
 
 pushed_no : (b : Bool) (n : ℕ) (x : Refusal) → Err x ≡ answer_of b n → (b ≡ false) × (x ≡ NoRoomInBlock)
-pushed_no true n x h = let z : ◌≡◌ {A = ℕ} 0 1 = cc in absurd (omega arith)
+pushed_no true n x h = cc
 pushed_no false n x h = (refl, cc)
 
 pushed_yes : (b : Bool) (n m : ℕ) → Ok m ≡ answer_of b n → b ≡ true
 pushed_yes true n m h = refl
-pushed_yes false n m h = let z : ◌≡◌ {A = ℕ} 0 1 = cc in absurd (omega arith)
+pushed_yes false n m h = cc
 
 -- command i, written into a block that holds the bytes cs
 module _ (file number : ℕ) (w : Way) (es : List Entry) (i : ℕ) (lt : i < length es) (cs : List ℕ) (far : w.at ≡ 8 + length cs) where
@@ -118,11 +118,11 @@ reached_entry file number marked w e h r =
 
 faulty_none : (o : Option BlockFault) (q : Option WriteError) → unless_faulty o q ≡ None → (o ≡ None) × (q ≡ None)
 faulty_none None q h = (refl, h)
-faulty_none (Some f) q h = let z : ◌≡◌ {A = ℕ} 0 1 = cc in absurd (omega arith)
+faulty_none (Some f) q h = cc
 
 fits_none : (b : Bool) (q : Option WriteError) → cond b q (Some (Refused NoRoomInBlock)) ≡ None → q ≡ None
 fits_none true q h = h
-fits_none false q h = let z : ◌≡◌ {A = ℕ} 0 1 = cc in absurd (omega arith)
+fits_none false q h = cc
 
 -- what can be written has no fault under an epoch that reaches its rows
 pub sound_under : (file number marked : ℕ) (w : Way) (es : List Entry) → unwritable file number w es ≡ None → All (Reached marked) es → is_ok (walk file number marked w es) ≡ true

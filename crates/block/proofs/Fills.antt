@@ -18,8 +18,8 @@ goes_in r cs (e ∷ es) h =
 
 pub counted : (es : List Entry) → Changes es → length (content es) ≡ 26 * writes_in es + 18 * erases_in es
 counted [] c = refl
-counted (Txn tid ∷ es) c = let h = c.0 in let z : ◌≡◌ {A = ℕ} 0 1 = cc in absurd (omega arith)
+counted (Txn tid ∷ es) c = let h = c.0 in cc
 counted (Put key value ∷ es) c = omega (arith, length-append (bytes_of (Put key value)) (content es), length_bytes (Put key value), counted es c.1)
 counted (Del key ∷ es) c = omega (arith, length-append (bytes_of (Del key)) (content es), length_bytes (Del key), counted es c.1)
-counted (Row tid key value ∷ es) c = let h = c.0 in let z : ◌≡◌ {A = ℕ} 0 1 = cc in absurd (omega arith)
-counted (Gone tid key ∷ es) c = let h = c.0 in let z : ◌≡◌ {A = ℕ} 0 1 = cc in absurd (omega arith)
+counted (Row tid key value ∷ es) c = let h = c.0 in cc
+counted (Gone tid key ∷ es) c = let h = c.0 in cc

@@ -58,7 +58,7 @@ only_zeros at (b ∷ bs) h =
 
 step_ok : (o : Option BlockFault) (r : Result Way BlockFault) (v : Way) → step_on o r ≡ Ok v → (o ≡ None) × (r ≡ Ok v)
 step_ok None r v h = (refl, h)
-step_ok (Some f) r v h = let z : ◌≡◌ {A = ℕ} 0 1 = cc in absurd (omega arith)
+step_ok (Some f) r v h = cc
 
 -- the walk ends behind all the commands
 pub walk_far : (file number marked : ℕ) (w v : Way) (es : List Entry) → walk file number marked w es ≡ Ok v → v.at ≡ w.at + length (content es)
@@ -70,11 +70,11 @@ walk_far file number marked w v (e ∷ es) h =
 
 field_none : (file number base epoch : ℕ) (r : Refusal) (o : Option ℕ) → fault_at file number r base epoch o ≡ None → o ≡ None
 field_none file number base epoch r None h = refl
-field_none file number base epoch r (Some i) h = let z : ◌≡◌ {A = ℕ} 0 1 = cc in absurd (omega arith)
+field_none file number base epoch r (Some i) h = cc
 
 pub both_none : {A : Type 0} (o q : Option A) → first_some o q ≡ None → (o ≡ None) × (q ≡ None)
 both_none None q h = (refl, h)
-both_none (Some x) q h = let z : ◌≡◌ {A = ℕ} 0 1 = cc in absurd (omega arith)
+both_none (Some x) q h = cc
 
 -- a command without a fault is in its place, with no field out of range
 pub placed_fields : (file number marked : ℕ) (w : Way) (e : Entry) → entry_fault file number marked w e ≡ None → (placed file w.opened e ≡ true) × (wrong_field marked e ≡ None)
@@ -82,7 +82,7 @@ placed_fields file number marked w e h = by (placed file w.opened e) h
   where
     by : (b : Bool) → cond b (fault_at file number FieldOutOfRange w.at (epoch_after w.epoch e) (wrong_field marked e)) (Some (fault file number MisplacedCommand w.at w.epoch)) ≡ None → (b ≡ true) × (wrong_field marked e ≡ None)
     by true h = (refl, field_none file number w.at (epoch_after w.epoch e) FieldOutOfRange (wrong_field marked e) h)
-    by false h = let z : ◌≡◌ {A = ℕ} 0 1 = cc in absurd (omega arith)
+    by false h = cc
 
 tid_fits : (tid : ℕ) → wrong_tid tid ≡ None → tid < 2 ^ 64
 tid_fits tid h = grind (arith, nat_tests)
@@ -99,7 +99,7 @@ value_fit i v h = by (value_fits v) refl h
   where
     by : (b : Bool) → value_fits v ≡ b → cond b None (Some i) ≡ None → SFits w64 v
     by true e h = seconds_fit v e
-    by false e h = let z : ◌≡◌ {A = ℕ} 0 1 = cc in absurd (omega arith)
+    by false e h = cc
 
 fields_fit : (marked : ℕ) (e : Entry) → wrong_field marked e ≡ None → Coded e → Fields e
 fields_fit marked (Txn tid) h c = tid_fits tid h
@@ -120,7 +120,7 @@ all_fields file number marked w v (e ∷ es) h c =
 
 came_through : (r : Result Way BlockFault) → is_ok r ≡ true → (v : Way) × (r ≡ Ok v)
 came_through (Ok v) h = (v, refl)
-came_through (Err f) h = let z : ◌≡◌ {A = ℕ} 0 1 = cc in absurd (omega arith)
+came_through (Err f) h = cc
 
 -- what a sealed block holds, part by part
 module _ (file number : ℕ) (cs : List ℕ) (room : length cs ≤ 502) where
@@ -198,11 +198,11 @@ block_reads_back file number marked bs es l is =
 
 read_right : (o : Option BlockFault) (xs es : List Entry) → judged o xs ≡ Ok es → (o ≡ None) × (xs ≡ es)
 read_right None xs es h = (refl, cc)
-read_right (Some f) xs es h = let z : ◌≡◌ {A = ℕ} 0 1 = cc in absurd (omega arith)
+read_right (Some f) xs es h = cc
 
 ended_right : (file number end : ℕ) (r : Result Way BlockFault) → ended file number end r ≡ None → (v : Way) × (r ≡ Ok v) × (end ≤ v.at)
 ended_right file number end (Ok v) h = (v, refl, grind (arith, nat_tests))
-ended_right file number end (Err f) h = let z : ◌≡◌ {A = ℕ} 0 1 = cc in absurd (omega arith)
+ended_right file number end (Err f) h = cc
 
 -- what the checks say of a block that passes them
 module _ (file number : ℕ) (bs : List ℕ) (long : length bs ≡ 512) (small : Bytes bs) where
@@ -258,7 +258,7 @@ sum_right bs h = by (eqb (number_at 2 510 bs) (fletcher16 (take 510 bs))) refl h
   where
     by : (t : Bool) → eqb (number_at 2 510 bs) (fletcher16 (take 510 bs)) ≡ t → ◌≡◌ {A = Option ℕ} (cond t None (Some 510)) None → number_at 2 510 bs ≡ fletcher16 (take 510 bs)
     by true e h = eqb-true _ _ e
-    by false e h = let z : ◌≡◌ {A = ℕ} 0 1 = cc in absurd (omega arith)
+    by false e h = cc
 
 -- a block that is read is the block of the commands read
 pub block_only_written : (file number marked : ℕ) (bs : List ℕ) → length bs ≡ 512 → Bytes bs → OnlyWritten file number bs (read_answer file number marked bs)

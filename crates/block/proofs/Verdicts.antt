@@ -7,16 +7,16 @@ use Rattle.block.specs.Parsing.{entries}
 
 -- what a check answered tells what it found
 pub found : {A : Type 0} (x : A) (o : Option BlockFault) (f : BlockFault) → Err f ≡ passed x o → o ≡ Some f
-found x None f h = let z : ◌≡◌ {A = ℕ} 0 1 = cc in absurd (omega arith)
+found x None f h = cc
 found x (Some g) f h = cc
 
 pub clean : {A : Type 0} (x y : A) (o : Option BlockFault) → Ok y ≡ passed x o → o ≡ None
 clean x y None h = refl
-clean x y (Some g) h = let z : ◌≡◌ {A = ℕ} 0 1 = cc in absurd (omega arith)
+clean x y (Some g) h = cc
 
 pub same_answer : {A : Type 0} (x y : A) (o : Option BlockFault) → Ok y ≡ passed x o → y ≡ x
 same_answer x y None h = cc
-same_answer x y (Some g) h = let z : ◌≡◌ {A = ℕ} 0 1 = cc in absurd (omega arith)
+same_answer x y (Some g) h = cc
 
 -- a block that no check finds a fault in
 pub no_fault : (file number marked : ℕ) (bs : List ℕ) → header_fault file number bs ≡ None → sum_fault file number bs ≡ None → padding_fault file number (number_at 2 2 bs) bs ≡ None → commands_fault file number marked (commands_in bs) ≡ None → Ok (entries (commands_in bs)) ≡ read_answer file number marked bs

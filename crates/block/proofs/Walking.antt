@@ -9,12 +9,12 @@ use Rattle.block.specs.Checks.{walk, step_on, entry_fault, onward}
 use Rattle.block.proofs.Entries.{size_suc}
 
 pub split_head : (es : List Entry) (e : Entry) → Some e ≡ head_of es → es ≡ e ∷ tail_of es
-split_head [] e h = let z : ◌≡◌ {A = ℕ} 0 1 = cc in absurd (omega arith)
+split_head [] e h = cc
 split_head (x ∷ es) e h = let s : x ≡ e = cc in ap (λ y. y ∷ es) s
 
 pub no_head : (es : List Entry) → None ≡ head_of es → es ≡ []
 no_head [] h = refl
-no_head (x ∷ es) h = let z : ◌≡◌ {A = ℕ} 0 1 = cc in absurd (omega arith)
+no_head (x ∷ es) h = cc
 
 module _ (file number marked : ℕ) (w : Way) where
   pub walk_fault : (es : List Entry) (e : Entry) (f : BlockFault) → Some e ≡ head_of es → entry_fault file number marked w e ≡ Some f → walk file number marked w es ≡ Err f
