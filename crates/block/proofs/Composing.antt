@@ -29,12 +29,10 @@ abbrev answer_of : Bool → ℕ → Result ℕ Refusal
 answer_of b n = cond b (Ok n) (Err NoRoomInBlock)
 
 pushed_no : (b : Bool) (n : ℕ) (x : Refusal) → Err x ≡ answer_of b n → (b ≡ false) × (x ≡ NoRoomInBlock)
-pushed_no true n x h = cc
-pushed_no false n x h = (refl, cc)
+pushed_no b n x h = (grind arith, grind arith)
 
 pushed_yes : (b : Bool) (n m : ℕ) → Ok m ≡ answer_of b n → b ≡ true
-pushed_yes true n m h = refl
-pushed_yes false n m h = cc
+pushed_yes b n m h = grind arith
 
 -- command i, written into a block that holds the bytes cs
 module _ (file number : ℕ) (w : Way) (es : List Entry) (i : ℕ) (lt : i < length es) (cs : List ℕ) (far : w.at ≡ 8 + length cs) where
@@ -117,12 +115,10 @@ reached_entry file number marked w e h r =
     (λ i. cond (p.0 i) (fault_at file number FieldOutOfRange w.at (epoch_after w.epoch e) (reached_field marked e p.1 r i)) (Some (fault file number MisplacedCommand w.at w.epoch)))
 
 faulty_none : (o : Option BlockFault) (q : Option WriteError) → unless_faulty o q ≡ None → (o ≡ None) × (q ≡ None)
-faulty_none None q h = (refl, h)
-faulty_none (Some f) q h = cc
+faulty_none o q h = (grind arith, grind arith)
 
 fits_none : (b : Bool) (q : Option WriteError) → cond b q (Some (Refused NoRoomInBlock)) ≡ None → q ≡ None
-fits_none true q h = h
-fits_none false q h = cc
+fits_none b q h = grind arith
 
 -- what can be written has no fault under an epoch that reaches its rows
 pub sound_under : (file number marked : ℕ) (w : Way) (es : List Entry) → unwritable file number w es ≡ None → All (Reached marked) es → is_ok (walk file number marked w es) ≡ true

@@ -57,8 +57,7 @@ only_zeros at (b ∷ bs) h =
     λ i. z i ∷ only_zeros (at + 1) bs r i
 
 step_ok : (o : Option BlockFault) (r : Result Way BlockFault) (v : Way) → step_on o r ≡ Ok v → (o ≡ None) × (r ≡ Ok v)
-step_ok None r v h = (refl, h)
-step_ok (Some f) r v h = cc
+step_ok o r v h = (grind arith, grind arith)
 
 -- the walk ends behind all the commands
 pub walk_far : (file number marked : ℕ) (w v : Way) (es : List Entry) → walk file number marked w es ≡ Ok v → v.at ≡ w.at + length (content es)
@@ -69,12 +68,10 @@ walk_far file number marked w v (e ∷ es) h =
     omega (arith, walk_far file number marked (onward w e) v es p.1, length-append (bytes_of e) (content es), length_bytes e)
 
 field_none : (file number base epoch : ℕ) (r : Refusal) (o : Option ℕ) → fault_at file number r base epoch o ≡ None → o ≡ None
-field_none file number base epoch r None h = refl
-field_none file number base epoch r (Some i) h = cc
+field_none file number base epoch r o h = grind arith
 
 pub both_none : {A : Type 0} (o q : Option A) → first_some o q ≡ None → (o ≡ None) × (q ≡ None)
-both_none None q h = (refl, h)
-both_none (Some x) q h = cc
+both_none o q h = (grind arith, grind arith)
 
 -- a command without a fault is in its place, with no field out of range
 pub placed_fields : (file number marked : ℕ) (w : Way) (e : Entry) → entry_fault file number marked w e ≡ None → (placed file w.opened e ≡ true) × (wrong_field marked e ≡ None)
@@ -197,8 +194,7 @@ block_reads_back file number marked bs es l is =
     ∙ ap (λ x. Ok (entries x)) (sealed_in file number cs l.room) ∙ ap (λ x. Ok x) read
 
 read_right : (o : Option BlockFault) (xs es : List Entry) → judged o xs ≡ Ok es → (o ≡ None) × (xs ≡ es)
-read_right None xs es h = (refl, cc)
-read_right (Some f) xs es h = cc
+read_right o xs es h = (grind arith, grind arith)
 
 ended_right : (file number end : ℕ) (r : Result Way BlockFault) → ended file number end r ≡ None → (v : Way) × (r ≡ Ok v) × (end ≤ v.at)
 ended_right file number end (Ok v) h = (v, refl, grind (arith, nat_tests))

@@ -1,5 +1,5 @@
 -- The first fault of a block, check by check.
-use Rattle.std.proofs.Common.{◌≡◌, ℕ, ◌+◌, ◌-◌, List, take, drop, Some, None, Ok, Err, Option, Result, sym, refl, ap, arith}
+use Rattle.std.proofs.Common.{◌≡◌, ℕ, ◌+◌, ◌-◌, List, take, drop, Some, None, Ok, Err, Option, Result, sym, ap, arith}
 use Rattle.base.specs.Bytes.{number_at}
 use Rattle.base.specs.declared.fault.BlockFault.{BlockFault}
 use Rattle.block.specs.Checks.{passed, judged, first_some, header_fault, sum_fault, padding_fault, commands_fault, commands_in, read_answer}
@@ -7,16 +7,13 @@ use Rattle.block.specs.Parsing.{entries}
 
 -- what a check answered tells what it found
 pub found : {A : Type 0} (x : A) (o : Option BlockFault) (f : BlockFault) → Err f ≡ passed x o → o ≡ Some f
-found x None f h = cc
-found x (Some g) f h = cc
+found x o f h = grind arith
 
 pub clean : {A : Type 0} (x y : A) (o : Option BlockFault) → Ok y ≡ passed x o → o ≡ None
-clean x y None h = refl
-clean x y (Some g) h = cc
+clean x y o h = grind arith
 
 pub same_answer : {A : Type 0} (x y : A) (o : Option BlockFault) → Ok y ≡ passed x o → y ≡ x
-same_answer x y None h = cc
-same_answer x y (Some g) h = cc
+same_answer x y o h = grind arith
 
 -- a block that no check finds a fault in
 pub no_fault : (file number marked : ℕ) (bs : List ℕ) → header_fault file number bs ≡ None → sum_fault file number bs ≡ None → padding_fault file number (number_at 2 2 bs) bs ≡ None → commands_fault file number marked (commands_in bs) ≡ None → Ok (entries (commands_in bs)) ≡ read_answer file number marked bs

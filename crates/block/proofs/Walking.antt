@@ -1,5 +1,5 @@
 -- One command of the walk after the other.
-use Rattle.std.proofs.Common.{◌≡◌, ℕ, ◌+◌, ◌<◌, ◌≤◌, List, [], ◌∷◌, length, drop, Some, None, Ok, Err, sym, refl, ap, ◌∙◌, arith, length-drop}
+use Rattle.std.proofs.Common.{◌≡◌, ℕ, ◌+◌, ◌<◌, ◌≤◌, List, [], ◌∷◌, length, drop, Some, None, Ok, Err, sym, ap, ◌∙◌, arith, length-drop}
 use Rattle.base.specs.declared.fault.BlockFault.{BlockFault}
 use Rattle.block.specs.declared.entry.Entry.{Entry}
 use Rattle.block.specs.declared.way.Way.{Way}
@@ -9,12 +9,10 @@ use Rattle.block.specs.Checks.{walk, step_on, entry_fault, onward}
 use Rattle.block.proofs.Entries.{size_suc}
 
 pub split_head : (es : List Entry) (e : Entry) → Some e ≡ head_of es → es ≡ e ∷ tail_of es
-split_head [] e h = cc
-split_head (x ∷ es) e h = let s : x ≡ e = cc in ap (λ y. y ∷ es) s
+split_head es e h = grind arith
 
 pub no_head : (es : List Entry) → None ≡ head_of es → es ≡ []
-no_head [] h = refl
-no_head (x ∷ es) h = cc
+no_head es h = grind arith
 
 module _ (file number marked : ℕ) (w : Way) where
   pub walk_fault : (es : List Entry) (e : Entry) (f : BlockFault) → Some e ≡ head_of es → entry_fault file number marked w e ≡ Some f → walk file number marked w es ≡ Err f
