@@ -1,10 +1,11 @@
 -- A command and its bytes give each other back.
 use Rattle.std.specs.Prelude.{All}
-use Rattle.std.proofs.Common.{◌≡◌, ℕ, zero, suc, ◌+◌, ◌^◌, ◌<◌, ◌≤◌, Bool, true, false, cond, eqb, leb, ◌⊎◌, List, [], ◌∷◌, ◌++◌, length, get_or, take, drop, ℤ, pos, negsuc, Some, None, Option, sym, refl, ap, ◌∙◌, subst, inl, inr, ⊎_elim, arith, length-drop, take-add, w64, SFits, to_z, of_z}
+use Rattle.std.proofs.Common.{◌≡◌, ℕ, zero, suc, ◌+◌, ◌^◌, ◌<◌, ◌≤◌, Bool, true, false, cond, eqb, ◌⊎◌, List, [], ◌∷◌, ◌++◌, length, get_or, take, drop, ℤ, pos, negsuc, Some, None, Option, sym, refl, ap, ◌∙◌, subst, inl, inr, ⊎_elim, arith, length-drop, take-add, w64, SFits, to_z, of_z}
 use Rattle.std.proofs.lemmas.List.Elements.{All-head, All-tail}
 use Rattle.std.proofs.lemmas.List.{drop_at, drop_more, drop-drop, length-take-le, take-take}
 use Rattle.std.proofs.lemmas.Int.{to_z-of_z, of_z-to_z}
-use Rattle.std.proofs.lemmas.Bool.{le-leb, leb-true, eqb-true}
+use Rattle.std.proofs.lemmas.Bool.Decides.{nat_tests}
+use Rattle.std.proofs.lemmas.Bool.{eqb-true}
 use Rattle.base.specs.Bytes.{be, be_at, number_at, Bytes}
 use Rattle.base.specs.Spelling.{reads_back, writes_back, be_at_lt, drop_small, take_small}
 use Rattle.block.specs.declared.entry.Entry.{Entry}
@@ -14,11 +15,7 @@ use Rattle.block.specs.Parsing.{first_entry, whole, entries, key_at, value_at}
 use Rattle.block.proofs.Entries.{entries_none, entries_some, size_suc}
 
 pub length_bytes : (e : Entry) → length (bytes_of e) ≡ size_of e
-length_bytes (Txn tid) = refl
-length_bytes (Put key value) = refl
-length_bytes (Del key) = refl
-length_bytes (Row tid key value) = refl
-length_bytes (Gone tid key) = refl
+length_bytes e = grind arith
 
 -- every field can hold what it is to hold
 abbrev pub Fields : Entry → Type 0
@@ -39,7 +36,7 @@ value_back : (v : ℤ) → SFits w64 v → to_z w64 (be_at 8 0 (be 8 (of_z w64 v
 value_back v fit = ap (to_z w64) (number_back 8 (of_z w64 v) (ofZ_lt v fit)) ∙ to_z-of_z w64 v fit
 
 there : (e : Entry) (bs : List ℕ) → size_of e ≤ length bs → whole e bs ≡ Some e
-there e bs h = ap (λ t. cond t (Some e) None) (le-leb (size_of e) (length bs) h)
+there e bs h = grind (arith, nat_tests)
 
 -- the bytes of a command begin with this command, whatever follows
 pub first_back : (e : Entry) (rest : List ℕ) → Fields e → first_entry (bytes_of e ++ rest) ≡ Some e
@@ -73,10 +70,7 @@ chosen true x y z h = inl (refl, h)
 chosen false x y z h = inr (refl, h)
 
 all_there : (x e : Entry) (bs : List ℕ) → whole x bs ≡ Some e → (x ≡ e) × (size_of x ≤ length bs)
-all_there x e bs h =
-    ⊎_elim (λ p. ((let s : x ≡ e = (let q = p.1 in cc) in s), leb-true (size_of x) (length bs) p.0))
-    (λ p. (let q = p.1 in cc))
-    (chosen (leb (size_of x) (length bs)) (Some x) None (Some e) h)
+all_there x e bs h = (grind (arith, nat_tests), grind (arith, nat_tests))
 
 module _ (bs : List ℕ) (small : Bytes bs) where
   -- a field is written back as its bytes

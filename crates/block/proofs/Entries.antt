@@ -1,17 +1,12 @@
 -- The commands of some bytes, one step at a time.
-use Rattle.std.proofs.Common.{◌≡◌, ℕ, zero, suc, ◌-◌, List, [], ◌∷◌, drop, Some, None, Option, sym, refl, ap, ◌∙◌}
+use Rattle.std.proofs.Common.{arith, ◌≡◌, ℕ, zero, suc, ◌-◌, List, [], ◌∷◌, drop, Some, None, Option, sym, refl, ap, ◌∙◌}
 use Rattle.block.specs.declared.entry.Entry.{Entry}
-use Rattle.block.specs.declared.entry.Entry.TheVariants.{Txn, Put, Del, Row, Gone}
 use Rattle.block.specs.Format.{size_of}
 use Rattle.block.specs.Parsing.{first_entry, and_then, entries_behind, entries, head_of, tail_of}
 use Rattle.block.specs.Commands.{taken}
 
 pub size_suc : (e : Entry) → size_of e ≡ suc (size_of e - 1)
-size_suc (Txn tid) = refl
-size_suc (Put key value) = refl
-size_suc (Del key) = refl
-size_suc (Row tid key value) = refl
-size_suc (Gone tid key) = refl
+size_suc e = grind arith
 
 behind : (k : ℕ) (bs : List ℕ) → entries_behind k bs ≡ entries_behind 0 (drop k bs)
 behind zero bs = refl

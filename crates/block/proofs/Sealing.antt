@@ -1,10 +1,10 @@
 -- A sealed block passes all checks, and what passes them is a sealed block.
 use Rattle.std.specs.Prelude.{All}
-use Rattle.std.proofs.Common.{◌≡◌, ℕ, zero, suc, ◌+◌, ◌-◌, ◌%◌, ◌^◌, ◌<◌, ◌≤◌, Bool, true, false, cond, not, ◌||◌, eqb, ltb, List, [], ◌∷◌, ◌++◌, length, get_or, take, drop, replicate, ℤ, pos, negsuc, is_ok, Some, None, Ok, Err, fold, Option, Result, sym, refl, ap, ◌∙◌, append_assoc, mod-lt, arith, length-append, length-drop, w64, SFits}
+use Rattle.std.proofs.Common.{◌≡◌, ℕ, zero, suc, ◌+◌, ◌-◌, ◌%◌, ◌^◌, ◌<◌, ◌≤◌, true, cond, not, ◌||◌, eqb, ltb, List, [], ◌∷◌, ◌++◌, length, get_or, take, drop, replicate, ℤ, pos, negsuc, is_ok, Some, None, Ok, Err, fold, Option, Result, sym, refl, ap, ◌∙◌, append_assoc, mod-lt, arith, length-append, length-drop, w64, SFits}
 use lib.ListN.{length-replicate}
 use Rattle.std.proofs.lemmas.List.Elements.{All-nil, All-cons, All-head, All-tail}
 use Rattle.std.proofs.lemmas.List.{take_at, drop_at, take_all, drop-drop, take-append-drop, length-take-le}
-use Rattle.std.proofs.lemmas.Bool.{le-ltb, eq-eqb, eqb-true}
+use Rattle.std.proofs.lemmas.Bool.{le-ltb, eq-eqb}
 use Rattle.std.proofs.lemmas.Bool.Decides.{nat_tests}
 use Rattle.base.specs.Bytes.{be, be_at, number_at, Bytes}
 use Rattle.base.specs.declared.fault.BlockFault.{BlockFault}
@@ -13,10 +13,10 @@ use Rattle.base.specs.Spelling.{reads_back, take_small, drop_small}
 use Rattle.block.specs.declared.entry.Entry.{Entry}
 use Rattle.block.specs.declared.way.Way.{Way}
 use Rattle.base.specs.Limits.{value_fits}
-use Rattle.base.specs.declared.refusal.Refusal.TheVariants.{BadHeader, BadSum, BadPadding, BadCommand, MisplacedCommand, FieldOutOfRange}
+use Rattle.base.specs.declared.refusal.Refusal.TheVariants.{BadHeader, BadSum, BadPadding, BadCommand}
 use Rattle.block.specs.declared.entry.Entry.TheVariants.{Txn, Put, Del, Row, Gone}
 use Rattle.block.specs.Laws.{Coded, ReadsBack, OnlyWritten}
-use Rattle.block.specs.Checks.{first_some, fault, placed, wrong_field, wrong_tid, wrong_row, wrong_kind, wrong_value, epoch_after, fault_at, wrong_header, wrong_sum, wrong_padding, nonzero, walk, start, onward, step_on, entry_fault, ended, commands_fault, commands_in, read_answer, judged, header_fault, sum_fault, padding_fault}
+use Rattle.block.specs.Checks.{first_some, fault, placed, wrong_field, wrong_tid, wrong_row, wrong_kind, wrong_value, fault_at, wrong_header, wrong_sum, wrong_padding, nonzero, walk, start, onward, step_on, entry_fault, ended, commands_fault, commands_in, read_answer, judged, header_fault, sum_fault, padding_fault}
 use Rattle.block.specs.Fletcher.{Sums, add_byte, no_bytes, sums, fletcher16}
 use Rattle.block.specs.Format.{bytes_of, content, header, summed, sealed}
 use Rattle.block.specs.Parsing.{entries}
@@ -75,11 +75,7 @@ both_none o q h = (grind arith, grind arith)
 
 -- a command without a fault is in its place, with no field out of range
 pub placed_fields : (file number marked : ℕ) (w : Way) (e : Entry) → entry_fault file number marked w e ≡ None → (placed file w.opened e ≡ true) × (wrong_field marked e ≡ None)
-placed_fields file number marked w e h = by (placed file w.opened e) h
-  where
-    by : (b : Bool) → cond b (fault_at file number FieldOutOfRange w.at (epoch_after w.epoch e) (wrong_field marked e)) (Some (fault file number MisplacedCommand w.at w.epoch)) ≡ None → (b ≡ true) × (wrong_field marked e ≡ None)
-    by true h = (refl, field_none file number w.at (epoch_after w.epoch e) FieldOutOfRange (wrong_field marked e) h)
-    by false h = cc
+placed_fields file number marked w e h = (grind arith, grind arith)
 
 tid_fits : (tid : ℕ) → wrong_tid tid ≡ None → tid < 2 ^ 64
 tid_fits tid h = grind (arith, nat_tests)
@@ -92,11 +88,7 @@ seconds_fit (pos n) h = record { sfits = (let b : n ≤ 1000000000 = grind (arit
 seconds_fit (negsuc n) h = record { sfits = (let b : n ≤ 999999999 = grind (arith, nat_tests) in omega arith) }
 
 value_fit : (i : ℕ) (v : ℤ) → wrong_value i v ≡ None → SFits w64 v
-value_fit i v h = by (value_fits v) refl h
-  where
-    by : (b : Bool) → value_fits v ≡ b → cond b None (Some i) ≡ None → SFits w64 v
-    by true e h = seconds_fit v e
-    by false e h = cc
+value_fit i v h = seconds_fit v (grind arith)
 
 fields_fit : (marked : ℕ) (e : Entry) → wrong_field marked e ≡ None → Coded e → Fields e
 fields_fit marked (Txn tid) h c = tid_fits tid h
@@ -250,11 +242,7 @@ commands_back file number marked ws small h =
     f.2 ∙ take_all k ws (omega (arith, e.2))
 
 sum_right : (bs : List ℕ) → wrong_sum bs ≡ None → number_at 2 510 bs ≡ fletcher16 (take 510 bs)
-sum_right bs h = by (eqb (number_at 2 510 bs) (fletcher16 (take 510 bs))) refl h
-  where
-    by : (t : Bool) → eqb (number_at 2 510 bs) (fletcher16 (take 510 bs)) ≡ t → ◌≡◌ {A = Option ℕ} (cond t None (Some 510)) None → number_at 2 510 bs ≡ fletcher16 (take 510 bs)
-    by true e h = eqb-true _ _ e
-    by false e h = cc
+sum_right bs h = grind (arith, nat_tests)
 
 -- a block that is read is the block of the commands read
 pub block_only_written : (file number marked : ℕ) (bs : List ℕ) → length bs ≡ 512 → Bytes bs → OnlyWritten file number bs (read_answer file number marked bs)

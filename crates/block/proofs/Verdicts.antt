@@ -1,8 +1,8 @@
 -- The first fault of a block, check by check.
-use Rattle.std.proofs.Common.{◌≡◌, ℕ, ◌+◌, ◌-◌, List, take, drop, Some, None, Ok, Err, Option, Result, sym, ap, arith}
+use Rattle.std.proofs.Common.{◌≡◌, ℕ, ◌+◌, ◌-◌, List, take, drop, Some, None, Ok, Err, Option, Result, ap, arith}
 use Rattle.base.specs.Bytes.{number_at}
 use Rattle.base.specs.declared.fault.BlockFault.{BlockFault}
-use Rattle.block.specs.Checks.{passed, judged, first_some, header_fault, sum_fault, padding_fault, commands_fault, commands_in, read_answer}
+use Rattle.block.specs.Checks.{passed, header_fault, sum_fault, padding_fault, commands_fault, commands_in, read_answer}
 use Rattle.block.specs.Parsing.{entries}
 
 -- what a check answered tells what it found
@@ -18,7 +18,7 @@ same_answer x y o h = grind arith
 -- a block that no check finds a fault in
 pub no_fault : (file number marked : ℕ) (bs : List ℕ) → header_fault file number bs ≡ None → sum_fault file number bs ≡ None → padding_fault file number (number_at 2 2 bs) bs ≡ None → commands_fault file number marked (commands_in bs) ≡ None → Ok (entries (commands_in bs)) ≡ read_answer file number marked bs
 unfolding read_answer
-no_fault file number marked bs h s p c = sym ((λ i. judged (first_some (h i) (first_some (s i) (first_some (p i) (c i)))) (entries (commands_in bs))))
+no_fault file number marked bs h s p c = grind arith
 
 -- a check that found nothing, and one that found a fault
 abbrev pub Passes : Option BlockFault → Type 0
@@ -46,20 +46,20 @@ module _ (file number marked n : ℕ) (bs : List ℕ) where
 
   pub at_header : (f : BlockFault) → Err f ≡ passed (number_at 2 2 bs) (header_fault file number bs) → Err f ≡ read_answer file number marked bs
   unfolding read_answer
-  at_header f e = grind (arith, found)
+  at_header f e = grind arith
 
   pub at_sum : (f : BlockFault) → Headed → Stops f (sum_fault file number bs) → Err f ≡ read_answer file number marked bs
   unfolding read_answer
-  at_sum f h e = grind (arith, found, clean)
+  at_sum f h e = grind arith
 
   pub at_padding : (f : BlockFault) → Headed → Summed → Stops f (padding_fault file number n bs) → Err f ≡ read_answer file number marked bs
   unfolding read_answer
-  at_padding f h s e = grind (arith, found, clean, same_answer)
+  at_padding f h s e = grind arith
 
   pub at_commands : (f : BlockFault) → Headed → Summed → Padded → Stops f (commands_fault file number marked words) → Err f ≡ read_answer file number marked bs
   unfolding read_answer
-  at_commands f h s p e = let w = in_words h in grind (arith, found, clean, same_answer)
+  at_commands f h s p e = let w = in_words h in grind arith
 
   pub all_clean : Headed → Summed → Padded → Passes (commands_fault file number marked words) → Ok (entries words) ≡ read_answer file number marked bs
   unfolding read_answer
-  all_clean h s p e = let w = in_words h in grind (arith, clean, same_answer)
+  all_clean h s p e = let w = in_words h in grind arith
