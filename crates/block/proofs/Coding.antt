@@ -1,11 +1,10 @@
 -- A command and its bytes give each other back.
 use Rattle.std.specs.Prelude.{All}
-use Rattle.std.proofs.Common.{◌≡◌, ℕ, zero, suc, ◌+◌, ◌^◌, ◌<◌, ◌≤◌, Bool, true, false, cond, eqb, ◌⊎◌, List, [], ◌∷◌, ◌++◌, length, get_or, take, drop, ℤ, pos, negsuc, Some, None, Option, sym, refl, ap, ◌∙◌, subst, inl, inr, ⊎_elim, arith, length-drop, take-add, w64, SFits, to_z, of_z}
+use Rattle.std.proofs.Common.{◌≡◌, ℕ, zero, suc, ◌+◌, ◌^◌, ◌<◌, ◌≤◌, List, [], ◌∷◌, ◌++◌, length, get_or, take, drop, ℤ, pos, negsuc, Some, None, Option, sym, refl, ap, ◌∙◌, arith, length-drop, take-add, w64, SFits, to_z, of_z}
 use Rattle.std.proofs.lemmas.List.Elements.{All-head, All-tail}
 use Rattle.std.proofs.lemmas.List.{drop_at, drop_more, drop-drop, length-take-le, take-take}
 use Rattle.std.proofs.lemmas.Int.{to_z-of_z, of_z-to_z}
 use Rattle.std.proofs.lemmas.Bool.Decides.{nat_tests}
-use Rattle.std.proofs.lemmas.Bool.{eqb-true}
 use Rattle.base.specs.Bytes.{be, be_at, number_at, Bytes}
 use Rattle.base.specs.Spelling.{reads_back, writes_back, be_at_lt, drop_small, take_small}
 use Rattle.block.specs.declared.entry.Entry.{Entry}
@@ -64,14 +63,6 @@ entries_back (e ∷ es) h =
     ∙ ap (λ l. e ∷ entries l) (drop_at (bytes_of e) (content es) (size_of e) (length_bytes e))
     ∙ ap (λ l. e ∷ l) (entries_back es (All-tail Fields e es h))
 
--- which of two ways a test took
-chosen : {A : Type 0} (b : Bool) (x y z : A) → cond b x y ≡ z → ((b ≡ true) × (x ≡ z)) ⊎ ((b ≡ false) × (y ≡ z))
-chosen true x y z h = inl (refl, h)
-chosen false x y z h = inr (refl, h)
-
-all_there : (x e : Entry) (bs : List ℕ) → whole x bs ≡ Some e → (x ≡ e) × (size_of x ≤ length bs)
-all_there x e bs h = (grind (arith, nat_tests), grind (arith, nat_tests))
-
 module _ (bs : List ℕ) (small : Bytes bs) where
   -- a field is written back as its bytes
   pub field_back : (k i : ℕ) → i + k ≤ length bs → be k (number_at k i bs) ≡ take k (drop i bs)
@@ -120,26 +111,9 @@ module _ (bs : List ℕ) (small : Bytes bs) where
       (λ t. tag 5 (omega arith) e t ++ (field_back 8 1 (omega arith) t ++ key_back 9 h t))
       ∙ ap (λ l. take 1 (drop 0 bs) ++ l) (sym (parts 1 8 17)) ∙ sym (parts 0 1 25)
 
-  abbrev Back : Entry → Type 0
-  Back e = (size_of e ≤ length bs) × (bytes_of e ≡ take (size_of e) bs)
-
-  from : (x e : Entry) → whole x bs ≡ Some e → (size_of x ≤ length bs → bytes_of x ≡ take (size_of x) bs) → Back e
-  from x e h b = let p = all_there x e bs h in let q : Back x = (p.1, b p.1) in subst Back p.0 q
-
   -- a command that was read is written as the bytes that it was read from
   pub first_only : (e : Entry) → first_entry bs ≡ Some e → (size_of e ≤ length bs) × (bytes_of e ≡ take (size_of e) bs)
-  first_only e h =
-      ⊎_elim (λ p. from (Txn (number_at 8 1 bs)) e p.1 (txn_back (eqb-true _ _ p.0)))
-      (λ p. ⊎_elim (λ q. from (Put (key_at 1 2 bs) (value_at 18 bs)) e q.1 (put_back (eqb-true _ _ q.0)))
-      (λ q. ⊎_elim (λ r. from (Del (key_at 1 2 bs)) e r.1 (del_back (eqb-true _ _ r.0)))
-      (λ r. ⊎_elim (λ s. from (Row (number_at 8 1 bs) (key_at 9 10 bs) (value_at 26 bs)) e s.1 (row_back (eqb-true _ _ s.0)))
-      (λ s. ⊎_elim (λ t. from (Gone (number_at 8 1 bs) (key_at 9 10 bs)) e t.1 (gone_back (eqb-true _ _ t.0)))
-      (λ t. (let n = t.1 in cc))
-      (chosen (eqb (get_or bs 0 0) 5) _ _ _ s.1))
-      (chosen (eqb (get_or bs 0 0) 4) _ _ _ r.1))
-      (chosen (eqb (get_or bs 0 0) 3) _ _ _ q.1))
-      (chosen (eqb (get_or bs 0 0) 2) _ _ _ p.1))
-      (chosen (eqb (get_or bs 0 0) 1) _ _ _ h)
+  first_only e h = (grind (arith, nat_tests), grind (arith, nat_tests, txn_back, put_back, del_back, row_back, gone_back))
 
 -- some front of the bytes
 abbrev Front : List ℕ → Type 0

@@ -6,23 +6,21 @@ use Rattle.std.proofs.lemmas.Bool.Decides.{nat_tests}
 use Rattle.base.specs.Limits.{last_epoch}
 use Rattle.base.specs.declared.fault.BlockFault.{BlockFault}
 use Rattle.base.specs.declared.refusal.Refusal.{Refusal}
-use Rattle.base.specs.declared.refusal.Refusal.TheVariants.{NoRoomInBlock, NoSuchIndex, FieldOutOfRange, MisplacedCommand}
+use Rattle.base.specs.declared.refusal.Refusal.TheVariants.{NoRoomInBlock, NoSuchIndex}
 use Rattle.block.specs.declared.entry.Entry.{Entry}
 use Rattle.block.specs.declared.way.Way.{Way}
 use Rattle.block.specs.declared.writer.WriteError.{WriteError}
 use Rattle.block.specs.declared.writer.WriteError.TheVariants.{Refused, Faulty}
 use Rattle.std.specs.Prelude.{All}
 use Rattle.std.proofs.lemmas.List.Elements.{All-head, All-tail}
-use Rattle.base.specs.Tids.{epoch_of}
-use Rattle.block.specs.declared.entry.Entry.TheVariants.{Txn, Put, Del, Row, Gone}
-use Rattle.block.specs.Checks.{start, onward, entry_fault, first_some, fault, fault_at, wrong_field, wrong_row, epoch_after, walk, step_on}
+use Rattle.block.specs.declared.entry.Entry.TheVariants.{Txn}
+use Rattle.block.specs.Checks.{start, onward, entry_fault, wrong_field, walk, step_on}
 use Rattle.block.specs.Drafts.{push_answer, push_after}
 use Rattle.block.specs.Fitting.{fits, room}
 use Rattle.block.specs.Format.{bytes_of, size_of, content, block_of}
 use Rattle.block.specs.Writing.{unwritable, unless, unless_faulty, write_answer, Reached, ReadsAsWritten}
 use Rattle.block.proofs.Coding.{length_bytes}
-use Rattle.block.proofs.Verdicts.{Passes, Stops, found, clean}
-use Rattle.block.proofs.Sealing.{both_none, placed_fields}
+use Rattle.block.proofs.Verdicts.{Passes, Stops, clean}
 
 -- a draft's answer tells whether the command fits
 abbrev answer_of : Bool → ℕ → Result ℕ Refusal
@@ -53,7 +51,7 @@ module _ (file number : ℕ) (w : Way) (es : List Entry) (i : ℕ) (lt : i < len
   fitting = grind (arith, nat_tests)
 
   pub stop_faulty : (f : BlockFault) → Stops f wrong → unwritable file number w (drop i es) ≡ Some (Faulty f)
-  stop_faulty f s = step ∙ ap (λ o. unless_faulty o (on (leb (w.at + size_of e) 510))) (found tt wrong f s)
+  stop_faulty f s = let h = step in grind arith
 
   pub stop_full : Passes wrong → (x : Refusal) → Err x ≡ push_answer cs e → unwritable file number w (drop i es) ≡ Some (Refused x)
   stop_full p x h =
@@ -71,7 +69,7 @@ module _ (cs ds : List ℕ) (e : Entry) (n : ℕ) (took : Ok n ≡ push_answer c
   fitted = pushed_yes (fits room (length cs) (size_of e)) (length cs + size_of e) n took
 
   pub push_bytes : ds ≡ cs ++ bytes_of e
-  push_bytes = after ∙ ap (λ t. cond t (cs ++ bytes_of e) cs) fitted
+  push_bytes = grind arith
 
   pub push_length : length ds ≡ length cs + size_of e
   push_length = omega (arith, ap length push_bytes, length-append cs (bytes_of e), length_bytes e)
@@ -98,21 +96,12 @@ pub none_left : (file number : ℕ) (w : Way) (es : List Entry) → es ≡ [] �
 unfolding unwritable
 none_left file number w es h = ap (unwritable file number w) h
 
-reached_row : (marked tid : ℕ) → wrong_row last_epoch tid ≡ None → epoch_of tid ≤ marked → wrong_row marked tid ≡ None
-reached_row marked tid h r = grind (arith, nat_tests)
-
 -- a field that is right under the last epoch is right under any that reaches it
 reached_field : (marked : ℕ) (e : Entry) → wrong_field last_epoch e ≡ None → Reached marked e → wrong_field marked e ≡ None
-reached_field marked (Txn tid) h r = h
-reached_field marked (Put key value) h r = h
-reached_field marked (Del key) h r = h
-reached_field marked (Row tid key value) h r = let p = both_none (wrong_row last_epoch tid) _ h in λ i. first_some (reached_row marked tid p.0 r i) (p.1 i)
-reached_field marked (Gone tid key) h r = let p = both_none (wrong_row last_epoch tid) _ h in λ i. first_some (reached_row marked tid p.0 r i) (p.1 i)
+reached_field marked e h r = grind (arith, nat_tests)
 
 reached_entry : (file number marked : ℕ) (w : Way) (e : Entry) → entry_fault file number last_epoch w e ≡ None → Reached marked e → entry_fault file number marked w e ≡ None
-reached_entry file number marked w e h r =
-    let p = placed_fields file number last_epoch w e h in
-    (λ i. cond (p.0 i) (fault_at file number FieldOutOfRange w.at (epoch_after w.epoch e) (reached_field marked e p.1 r i)) (Some (fault file number MisplacedCommand w.at w.epoch)))
+reached_entry file number marked w e h r = grind (arith, reached_field)
 
 faulty_none : (o : Option BlockFault) (q : Option WriteError) → unless_faulty o q ≡ None → (o ≡ None) × (q ≡ None)
 faulty_none o q h = (grind arith, grind arith)

@@ -14,9 +14,8 @@ use Rattle.block.specs.declared.entry.Entry.{Entry}
 use Rattle.block.specs.declared.way.Way.{Way}
 use Rattle.base.specs.Limits.{value_fits}
 use Rattle.base.specs.declared.refusal.Refusal.TheVariants.{BadHeader, BadSum, BadPadding, BadCommand}
-use Rattle.block.specs.declared.entry.Entry.TheVariants.{Txn, Put, Del, Row, Gone}
 use Rattle.block.specs.Laws.{Coded, ReadsBack, OnlyWritten}
-use Rattle.block.specs.Checks.{first_some, fault, placed, wrong_field, wrong_tid, wrong_row, wrong_kind, wrong_value, fault_at, wrong_header, wrong_sum, wrong_padding, nonzero, walk, start, onward, step_on, entry_fault, ended, commands_fault, commands_in, read_answer, judged, header_fault, sum_fault, padding_fault}
+use Rattle.block.specs.Checks.{first_some, fault, placed, wrong_field, wrong_tid, wrong_row, wrong_value, fault_at, wrong_header, wrong_sum, wrong_padding, nonzero, walk, start, onward, step_on, entry_fault, ended, commands_fault, commands_in, read_answer, judged, header_fault, sum_fault, padding_fault}
 use Rattle.block.specs.Fletcher.{Sums, add_byte, no_bytes, sums, fletcher16}
 use Rattle.block.specs.Format.{bytes_of, content, header, summed, sealed}
 use Rattle.block.specs.Parsing.{entries}
@@ -91,13 +90,7 @@ value_fit : (i : ℕ) (v : ℤ) → wrong_value i v ≡ None → SFits w64 v
 value_fit i v h = seconds_fit v (grind arith)
 
 fields_fit : (marked : ℕ) (e : Entry) → wrong_field marked e ≡ None → Coded e → Fields e
-fields_fit marked (Txn tid) h c = tid_fits tid h
-fields_fit marked (Put key value) h c = (c, value_fit 18 value (both_none (wrong_kind 1 key) (wrong_value 18 value) h).1)
-fields_fit marked (Del key) h c = c
-fields_fit marked (Row tid key value) h c =
-    let p = both_none (wrong_row marked tid) (first_some (wrong_kind 9 key) (wrong_value 26 value)) h in
-    (row_fits marked tid p.0, c, value_fit 26 value (both_none (wrong_kind 9 key) (wrong_value 26 value) p.1).1)
-fields_fit marked (Gone tid key) h c = (row_fits marked tid (both_none (wrong_row marked tid) (wrong_kind 9 key) h).0, c)
+fields_fit marked e h c = grind (arith, tid_fits, row_fits, value_fit)
 
 -- commands without a fault fit their fields
 all_fields : (file number marked : ℕ) (w v : Way) (es : List Entry) → walk file number marked w es ≡ Ok v → All Coded es → All Fields es
