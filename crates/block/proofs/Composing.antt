@@ -1,12 +1,12 @@
 -- Writing one command after the other.
-use Rattle.std.proofs.Common.{◌≡◌, ℕ, ◌+◌, ◌<◌, ◌≤◌, Bool, true, false, cond, leb, List, [], ◌∷◌, ◌++◌, length, get_or, take, drop, is_ok, Some, None, Ok, Err, Option, Result, sym, refl, ap, ◌∙◌, subst, arith, length-append}
+use Rattle.std.proofs.Common.{◌≡◌, ℕ, ◌+◌, ◌<◌, ◌≤◌, Bool, true, false, cond, leb, List, [], ◌∷◌, ◌++◌, length, get_or, take, drop, is_ok, Some, None, Ok, Err, Option, Result, sym, refl, ap, ◌∙◌, arith, length-append}
 use Rattle.std.proofs.lemmas.List.{take_more, drop_more, flat_map_more}
-use Rattle.std.proofs.lemmas.Bool.{le-ltb, leb-true}
+use Rattle.std.proofs.lemmas.Bool.{leb-true}
 use Rattle.std.proofs.lemmas.Bool.Decides.{nat_tests}
 use Rattle.base.specs.Limits.{last_epoch}
 use Rattle.base.specs.declared.fault.BlockFault.{BlockFault}
 use Rattle.base.specs.declared.refusal.Refusal.{Refusal}
-use Rattle.base.specs.declared.refusal.Refusal.TheVariants.{NoRoomInBlock, NoSuchIndex}
+use Rattle.base.specs.declared.refusal.Refusal.TheVariants.{NoRoomInBlock}
 use Rattle.block.specs.declared.entry.Entry.{Entry}
 use Rattle.block.specs.declared.way.Way.{Way}
 use Rattle.block.specs.declared.writer.WriteError.{WriteError}
@@ -18,7 +18,7 @@ use Rattle.block.specs.Checks.{start, onward, entry_fault, wrong_field, walk, st
 use Rattle.block.specs.Drafts.{push_answer, push_after}
 use Rattle.block.specs.Fitting.{fits, room}
 use Rattle.block.specs.Format.{bytes_of, size_of, content, block_of}
-use Rattle.block.specs.Writing.{unwritable, unless, unless_faulty, write_answer, Reached, ReadsAsWritten}
+use Rattle.block.specs.Writing.{unwritable, unless_faulty, write_answer, Reached}
 use Rattle.block.proofs.Coding.{length_bytes}
 use Rattle.block.proofs.Verdicts.{Passes, Stops, clean}
 
@@ -81,16 +81,13 @@ module _ (cs ds : List ℕ) (e : Entry) (n : ℕ) (took : Ok n ≡ push_answer c
 pub content_more : (es : List Entry) (i : ℕ) (d : Entry) → i < length es → content (take i es) ++ bytes_of (get_or es i d) ≡ content (take (i + 1) es)
 content_more es i d lt = flat_map_more bytes_of [] (take i es) (get_or es i d) ∙ ap content (sym (take_more es i d lt))
 
--- an answer that gives a reason is the writer's, and says nothing of reading
+-- an answer that gives the first reason is the writer's
 module _ (file number : ℕ) (es : List Entry) (r : Result (List ℕ) WriteError) (x : WriteError) (is : r ≡ Err x) where
   pub refused_with : file ≤ 7 → unwritable file number start es ≡ Some x → r ≡ write_answer file number es
-  refused_with low h = is ∙ sym ((λ i. cond (le-ltb 7 file low i) (Err (Refused NoSuchIndex)) (unless (h i) (block_of file number es))))
-
-  pub no_block : ReadsAsWritten file number es r
-  no_block = subst (λ q. ReadsAsWritten file number es q) (sym is) tt
+  refused_with low h = grind (arith, nat_tests)
 
 pub written_as : (file number : ℕ) (es : List Entry) → file ≤ 7 → unwritable file number start es ≡ None → Ok (block_of file number es) ≡ write_answer file number es
-written_as file number es low h = sym ((λ i. cond (le-ltb 7 file low i) (Err (Refused NoSuchIndex)) (unless (h i) (block_of file number es))))
+written_as file number es low h = grind (arith, nat_tests)
 
 pub none_left : (file number : ℕ) (w : Way) (es : List Entry) → es ≡ [] → unwritable file number w es ≡ None
 unfolding unwritable

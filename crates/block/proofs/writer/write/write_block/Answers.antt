@@ -10,29 +10,29 @@ use Rattle.block.specs.Drafts.{written}
 use Rattle.block.specs.Format.{bytes_of, content, sealed}
 use Rattle.block.specs.Laws.{Coded}
 use Rattle.block.proofs.Checking.{listed_file}
-use Rattle.block.proofs.Composing.{stop_faulty, stop_full, go_on, push_bytes, push_length, push_room, content_more, refused_with, no_block, written_as, none_left, sound_under}
+use Rattle.block.proofs.Composing.{stop_faulty, stop_full, go_on, push_bytes, push_length, push_room, content_more, refused_with, written_as, none_left, sound_under}
 use Rattle.block.proofs.Sealing.{block_reads_back}
 use Rattle.block.proofs.writer.write.write_block.Goals as goal
 
-pub returns-in_err-check_entry : goal.returns-in_err-check_entry
-returns-in_err-check_entry c =
+pub returns-in_err-check_entry-clause-answer : goal.returns-in_err-check_entry-clause-answer
+returns-in_err-check_entry-clause-answer c =
     let at = c.args.at in
     let es = c.args.entries.now in
     let l = c.loop-what in
     let p = err_from_is_err_and c.from_residual-in_err-check_entry.result c.from_residual-in_err-check_entry.ensures.1 in
     let is = p.1 ∙ ap (λ x. Err x) p.2 in
     let stop = stop_faulty at.file at.number l.way es l.what-index c.loop-what-test.true (written l.draft) l.invariant.1 _ c.in_err-check_entry.ensures.answer in
-    record { answer = refused_with at.file at.number es _ _ is (listed_file at.file c.in_ok-check_file.ensures) (sym l.invariant.3 ∙ stop); back = no_block at.file at.number es _ _ is }
+    refused_with at.file at.number es _ _ is (listed_file at.file c.in_ok-check_file.ensures) (sym l.invariant.3 ∙ stop)
 
-pub returns-in_err-push : goal.returns-in_err-push
-returns-in_err-push c =
+pub returns-in_err-push-clause-answer : goal.returns-in_err-push-clause-answer
+returns-in_err-push-clause-answer c =
     let at = c.args.at in
     let es = c.args.entries.now in
     let l = c.loop-what in
     let p = err_from_is_err_and c.from_residual-in_err-push.result c.from_residual-in_err-push.ensures.1 in
     let is = p.1 ∙ ap (λ x. Err x) p.2 in
     let stop = stop_full at.file at.number l.way es l.what-index c.loop-what-test.true (written l.draft) l.invariant.1 c.in_ok-check_entry.ensures.answer _ c.in_err-push.ensures.answer in
-    record { answer = refused_with at.file at.number es _ _ is (listed_file at.file c.in_ok-check_file.ensures) (sym l.invariant.3 ∙ stop); back = no_block at.file at.number es _ _ is }
+    refused_with at.file at.number es _ _ is (listed_file at.file c.in_ok-check_file.ensures) (sym l.invariant.3 ∙ stop)
 
 pub loop-what-preserved : goal.loop-what-preserved
 loop-what-preserved c =
