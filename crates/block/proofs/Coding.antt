@@ -1,9 +1,10 @@
 -- A command and its bytes give each other back.
-use Rattle.std.proofs.Common.{◌≡◌, ℕ, zero, suc, ◌+◌, ◌^◌, ◌<◌, ◌≤◌, Bool, true, false, cond, eqb, leb, ◌⊎◌, List, [], ◌∷◌, ◌++◌, length, get_or, take, drop, ℤ, pos, negsuc, Some, None, Option, sym, refl, ap, ◌∙◌, subst, inl, inr, ⊎_elim, arith, length-drop, take-add, w64, SFits, to_z, of_z}
-use Rattle.std.specs.List.{AllByRecursion}
+use Rattle.std.specs.Prelude.{All}
+use Rattle.std.proofs.Common.{◌≡◌, ℕ, zero, suc, ◌+◌, ◌^◌, ◌<◌, ◌≤◌, List, [], ◌∷◌, ◌++◌, length, get_or, take, drop, ℤ, pos, negsuc, Some, None, Option, sym, refl, ap, ◌∙◌, arith, length-drop, take-add, w64, SFits, to_z, of_z}
+use Rattle.std.proofs.lemmas.List.Elements.{All-head, All-tail}
 use Rattle.std.proofs.lemmas.List.{drop_at, drop_more, drop-drop, length-take-le, take-take}
 use Rattle.std.proofs.lemmas.Int.{to_z-of_z, of_z-to_z}
-use Rattle.std.proofs.lemmas.Bool.{le-leb, leb-true, eqb-true}
+use Rattle.std.proofs.lemmas.Bool.Decides.{nat_tests}
 use Rattle.base.specs.Bytes.{be, be_at, number_at, Bytes}
 use Rattle.base.specs.Spelling.{reads_back, writes_back, be_at_lt, drop_small, take_small}
 use Rattle.block.specs.declared.entry.Entry.{Entry}
@@ -13,11 +14,7 @@ use Rattle.block.specs.Parsing.{first_entry, whole, entries, key_at, value_at}
 use Rattle.block.proofs.Entries.{entries_none, entries_some, size_suc}
 
 pub length_bytes : (e : Entry) → length (bytes_of e) ≡ size_of e
-length_bytes (Txn tid) = refl
-length_bytes (Put key value) = refl
-length_bytes (Del key) = refl
-length_bytes (Row tid key value) = refl
-length_bytes (Gone tid key) = refl
+length_bytes e = grind arith
 
 -- every field can hold what it is to hold
 abbrev pub Fields : Entry → Type 0
@@ -38,7 +35,7 @@ value_back : (v : ℤ) → SFits w64 v → to_z w64 (be_at 8 0 (be 8 (of_z w64 v
 value_back v fit = ap (to_z w64) (number_back 8 (of_z w64 v) (ofZ_lt v fit)) ∙ to_z-of_z w64 v fit
 
 there : (e : Entry) (bs : List ℕ) → size_of e ≤ length bs → whole e bs ≡ Some e
-there e bs h = ap (λ t. cond t (Some e) None) (le-leb (size_of e) (length bs) h)
+there e bs h = grind (arith, nat_tests)
 
 -- the bytes of a command begin with this command, whatever follows
 pub first_back : (e : Entry) (rest : List ℕ) → Fields e → first_entry (bytes_of e ++ rest) ≡ Some e
@@ -59,23 +56,12 @@ first_back (Gone tid key) rest h =
     ∙ (λ i. Some (Gone (number_back 8 tid h.0 i) (record { kind = key.kind; code = number_back 16 key.code h.1 i })))
 
 -- the bytes of commands are read as these commands
-pub entries_back : (es : List Entry) → AllByRecursion Fields es → entries (content es) ≡ es
+pub entries_back : (es : List Entry) → All Fields es → entries (content es) ≡ es
 entries_back [] h = entries_none [] refl
 entries_back (e ∷ es) h =
-    entries_some (bytes_of e ++ content es) e (first_back e (content es) h.0)
+    entries_some (bytes_of e ++ content es) e (first_back e (content es) (All-head Fields e es h))
     ∙ ap (λ l. e ∷ entries l) (drop_at (bytes_of e) (content es) (size_of e) (length_bytes e))
-    ∙ ap (λ l. e ∷ l) (entries_back es h.1)
-
--- which of two ways a test took
-chosen : {A : Type 0} (b : Bool) (x y z : A) → cond b x y ≡ z → ((b ≡ true) × (x ≡ z)) ⊎ ((b ≡ false) × (y ≡ z))
-chosen true x y z h = inl (refl, h)
-chosen false x y z h = inr (refl, h)
-
-all_there : (x e : Entry) (bs : List ℕ) → whole x bs ≡ Some e → (x ≡ e) × (size_of x ≤ length bs)
-all_there x e bs h =
-    ⊎_elim (λ p. ((let s : x ≡ e = (let q = p.1 in cc) in s), leb-true (size_of x) (length bs) p.0))
-    (λ p. absurd (let q = p.1 in let z : ◌≡◌ {A = ℕ} 0 1 = cc in omega arith))
-    (chosen (leb (size_of x) (length bs)) (Some x) None (Some e) h)
+    ∙ ap (λ l. e ∷ l) (entries_back es (All-tail Fields e es h))
 
 module _ (bs : List ℕ) (small : Bytes bs) where
   -- a field is written back as its bytes
@@ -125,26 +111,9 @@ module _ (bs : List ℕ) (small : Bytes bs) where
       (λ t. tag 5 (omega arith) e t ++ (field_back 8 1 (omega arith) t ++ key_back 9 h t))
       ∙ ap (λ l. take 1 (drop 0 bs) ++ l) (sym (parts 1 8 17)) ∙ sym (parts 0 1 25)
 
-  abbrev Back : Entry → Type 0
-  Back e = (size_of e ≤ length bs) × (bytes_of e ≡ take (size_of e) bs)
-
-  from : (x e : Entry) → whole x bs ≡ Some e → (size_of x ≤ length bs → bytes_of x ≡ take (size_of x) bs) → Back e
-  from x e h b = let p = all_there x e bs h in let q : Back x = (p.1, b p.1) in subst Back p.0 q
-
   -- a command that was read is written as the bytes that it was read from
   pub first_only : (e : Entry) → first_entry bs ≡ Some e → (size_of e ≤ length bs) × (bytes_of e ≡ take (size_of e) bs)
-  first_only e h =
-      ⊎_elim (λ p. from (Txn (number_at 8 1 bs)) e p.1 (txn_back (eqb-true _ _ p.0)))
-      (λ p. ⊎_elim (λ q. from (Put (key_at 1 2 bs) (value_at 18 bs)) e q.1 (put_back (eqb-true _ _ q.0)))
-      (λ q. ⊎_elim (λ r. from (Del (key_at 1 2 bs)) e r.1 (del_back (eqb-true _ _ r.0)))
-      (λ r. ⊎_elim (λ s. from (Row (number_at 8 1 bs) (key_at 9 10 bs) (value_at 26 bs)) e s.1 (row_back (eqb-true _ _ s.0)))
-      (λ s. ⊎_elim (λ t. from (Gone (number_at 8 1 bs) (key_at 9 10 bs)) e t.1 (gone_back (eqb-true _ _ t.0)))
-      (λ t. absurd (let n = t.1 in let z : ◌≡◌ {A = ℕ} 0 1 = cc in omega arith))
-      (chosen (eqb (get_or bs 0 0) 5) _ _ _ s.1))
-      (chosen (eqb (get_or bs 0 0) 4) _ _ _ r.1))
-      (chosen (eqb (get_or bs 0 0) 3) _ _ _ q.1))
-      (chosen (eqb (get_or bs 0 0) 2) _ _ _ p.1))
-      (chosen (eqb (get_or bs 0 0) 1) _ _ _ h)
+  first_only e h = (grind (arith, nat_tests), grind (arith, nat_tests, txn_back, put_back, del_back, row_back, gone_back))
 
 -- some front of the bytes
 abbrev Front : List ℕ → Type 0

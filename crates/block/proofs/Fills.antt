@@ -1,9 +1,7 @@
 -- What fits goes in whole, whatever the room.
-use Rattle.std.proofs.Common.{◌≡◌, ℕ, ◌+◌, ◌-◌, ◌*◌, ◌≤◌, cond, leb, List, [], ◌∷◌, ◌++◌, length, sym, refl, ap, ◌∙◌, append_assoc, arith, length-append}
+use Rattle.std.proofs.Common.{◌≡◌, ℕ, ◌+◌, ◌*◌, ◌≤◌, cond, List, [], ◌∷◌, ◌++◌, length, sym, refl, ap, ◌∙◌, append_assoc, arith, length-append}
 use Rattle.std.proofs.lemmas.List.{append-nil}
 use Rattle.std.proofs.lemmas.Bool.{le-leb}
-use Rattle.std.proofs.lemmas.Bool.Decides.{nat_tests}
-use Rattle.block.specs.Fitting.{fits, needed}
 use Rattle.block.specs.declared.entry.Entry.{Entry}
 use Rattle.block.specs.declared.entry.Entry.TheVariants.{Txn, Put, Del, Row, Gone}
 use Rattle.block.specs.Filling.{with_entry, with_entries, writes_in, erases_in, Changes}
@@ -20,14 +18,8 @@ goes_in r cs (e ∷ es) h =
 
 pub counted : (es : List Entry) → Changes es → length (content es) ≡ 26 * writes_in es + 18 * erases_in es
 counted [] c = refl
-counted (Txn tid ∷ es) c = let h = c.0 in let z : ◌≡◌ {A = ℕ} 0 1 = cc in absurd (omega arith)
+counted (Txn tid ∷ es) c = let h = c.0 in cc
 counted (Put key value ∷ es) c = omega (arith, length-append (bytes_of (Put key value)) (content es), length_bytes (Put key value), counted es c.1)
 counted (Del key ∷ es) c = omega (arith, length-append (bytes_of (Del key)) (content es), length_bytes (Del key), counted es c.1)
-counted (Row tid key value ∷ es) c = let h = c.0 in let z : ◌≡◌ {A = ℕ} 0 1 = cc in absurd (omega arith)
-counted (Gone tid key ∷ es) c = let h = c.0 in let z : ◌≡◌ {A = ℕ} 0 1 = cc in absurd (omega arith)
-
-pub same_room : (r used n more : ℕ) → used ≤ r → n ≡ used → leb more (r - used) ≡ fits r n more
-same_room r used n more h e = grind (arith, nat_tests)
-
-pub needed_some : (w e : ℕ) → (w + e ≡ 0 → ⊥) → 9 + 26 * w + 18 * e ≡ needed w e
-needed_some w e h = grind (arith, nat_tests)
+counted (Row tid key value ∷ es) c = let h = c.0 in cc
+counted (Gone tid key ∷ es) c = let h = c.0 in cc

@@ -1,5 +1,6 @@
 -- What a draft holds after some bytes more.
-use Rattle.std.proofs.Common.{◌≡◌, ℕ, ◌+◌, ◌-◌, ◌≤◌, List, ◌++◌, length, take, drop, replicate, sym, ap, ◌∙◌, append_assoc, arith, length-append, length-drop, rules}
+use Rattle.std.proofs.Common.{◌≡◌, ℕ, zero, suc, ◌+◌, ◌-◌, ◌/◌, ◌%◌, ◌^◌, ◌≤◌, List, ◌∷◌, ◌++◌, length, take, drop, replicate, refl, sym, ap, ◌∙◌, append_assoc, arith, length-append, length-drop, rules}
+use Rattle.std.specs.Int.{byte_at, bytes_high_first}
 use borrow.Rule.Slice.PartMut.{put_mid}
 use lib.ListN.{length-replicate}
 use Rattle.base.specs.Bytes.{be}
@@ -34,9 +35,18 @@ module _ (xs ys part : List ℕ) (used k n : ℕ) (whole : length xs ≡ 512) (s
       sym (drop-take 8 (used + n) new) ∙ ap (drop 8) (take-put_mid (8 + used) k xs ys (8 + (used + n)) (omega arith) (omega arith))
       ∙ drop-append-le 8 (take (8 + used) xs) ys long ∙ (λ i. drop-take 8 used xs i ++ is i)
 
--- two parts one after the other
-pub joins : (w v u a b : List ℕ) → v ≡ w ++ a → u ≡ v ++ b → u ≡ w ++ (a ++ b)
-joins w v u a b d e = e ∙ ap (λ l. l ++ b) d ∙ append_assoc w a b
+-- two parts one after the other, of which the second is laid down as p
+pub joins : (w a b : List ℕ) {v u p : List ℕ} → v ≡ w ++ a → u ≡ v ++ p → p ≡ b → u ≡ w ++ (a ++ b)
+joins w a b {v} {u} {p} d e h = e ∙ (λ i. d i ++ h i) ∙ append_assoc w a b
+
+same_top : (k n : ℕ) → byte_at k n ≡ n / 256 ^ k % 256
+same_top zero n = omega arith
+same_top (suc k) n = refl
+
+-- the bytes that `to_be_bytes` gives
+pub be_same : (k n : ℕ) → bytes_high_first k n ≡ be k n
+be_same zero n = refl
+be_same (suc k) n = λ i. same_top k n i ∷ be_same k n i
 
 zeros_split : (used : ℕ) → used ≤ 502 → replicate {A = ℕ} (504 - used) 0 ≡ replicate (502 - used) 0 ++ replicate 2 0
 zeros_split used h = let e : 504 - used ≡ 502 - used + 2 = omega arith in ap (λ n. replicate n 0) e ∙ sym (replicate-append-replicate (502 - used) 2 0)

@@ -5,5 +5,4 @@ pub mod Entries
 pub mod Fills
 pub mod Laying
 pub mod Sealing
-pub mod Summing
 pub mod Verdicts

@@ -1,9 +1,10 @@
 -- A sealed block passes all checks, and what passes them is a sealed block.
-use Rattle.std.proofs.Common.{◌≡◌, ℕ, zero, suc, ◌+◌, ◌-◌, ◌%◌, ◌^◌, ◌<◌, ◌≤◌, Bool, true, false, cond, not, ◌||◌, eqb, ltb, List, [], ◌∷◌, ◌++◌, length, get_or, take, drop, replicate, ℤ, pos, negsuc, is_ok, Some, None, Ok, Err, fold, Option, Result, sym, refl, ap, ◌∙◌, append_assoc, mod-lt, arith, length-append, length-drop, w64, SFits}
+use Rattle.std.specs.Prelude.{All}
+use Rattle.std.proofs.Common.{◌≡◌, ℕ, zero, suc, ◌+◌, ◌-◌, ◌%◌, ◌^◌, ◌<◌, ◌≤◌, true, cond, not, ◌||◌, eqb, ltb, List, [], ◌∷◌, ◌++◌, length, get_or, take, drop, replicate, ℤ, pos, negsuc, is_ok, Some, None, Ok, Err, fold, Option, Result, sym, refl, ap, ◌∙◌, append_assoc, mod-lt, arith, length-append, length-drop, w64, SFits}
 use lib.ListN.{length-replicate}
-use Rattle.std.specs.List.{AllByRecursion}
+use Rattle.std.proofs.lemmas.List.Elements.{All-nil, All-cons, All-head, All-tail}
 use Rattle.std.proofs.lemmas.List.{take_at, drop_at, take_all, drop-drop, take-append-drop, length-take-le}
-use Rattle.std.proofs.lemmas.Bool.{le-ltb, eq-eqb, eqb-true}
+use Rattle.std.proofs.lemmas.Bool.{le-ltb, eq-eqb}
 use Rattle.std.proofs.lemmas.Bool.Decides.{nat_tests}
 use Rattle.base.specs.Bytes.{be, be_at, number_at, Bytes}
 use Rattle.base.specs.Faults.{BlockFault}
@@ -12,16 +13,15 @@ use Rattle.base.specs.Spelling.{reads_back, take_small, drop_small}
 use Rattle.block.specs.declared.entry.Entry.{Entry}
 use Rattle.block.specs.declared.way.Way.{Way}
 use Rattle.base.specs.Limits.{value_fits}
-use Rattle.base.specs.declared.refusal.Refusal.TheVariants.{BadHeader, BadSum, BadPadding, BadCommand, MisplacedCommand, FieldOutOfRange}
-use Rattle.block.specs.declared.entry.Entry.TheVariants.{Txn, Put, Del, Row, Gone}
+use Rattle.base.specs.declared.refusal.Refusal.TheVariants.{BadHeader, BadSum, BadPadding, BadCommand}
 use Rattle.block.specs.Laws.{Coded, ReadsBack, OnlyWritten}
-use Rattle.block.specs.Checks.{first_some, fault, placed, wrong_field, wrong_tid, wrong_row, wrong_kind, wrong_value, epoch_after, fault_at, wrong_header, wrong_sum, wrong_padding, nonzero, walk, start, onward, step_on, entry_fault, ended, commands_fault, commands_in, read_answer, judged, header_fault, sum_fault, padding_fault}
+use Rattle.block.specs.Checks.{first_some, fault, placed, wrong_field, wrong_tid, wrong_row, wrong_value, fault_at, wrong_header, wrong_sum, wrong_padding, nonzero, walk, start, onward, step_on, entry_fault, ended, commands_fault, commands_in, read_answer, judged, header_fault, sum_fault, padding_fault}
 use Rattle.block.specs.Fletcher.{Sums, add_byte, no_bytes, sums, fletcher16}
 use Rattle.block.specs.Format.{bytes_of, content, header, summed, sealed}
 use Rattle.block.specs.Parsing.{entries}
 use Rattle.block.proofs.Coding.{length_bytes, entries_back, front_back, Fields, field_back, byte_field, parts, tag}
 use Rattle.block.proofs.Laying.{length-summed}
-use Rattle.block.proofs.Verdicts.{all_clean}
+use Rattle.block.proofs.Verdicts.{no_fault}
 
 -- the header's checks, over the numbers that they look at
 abbrev header_test : ℕ → ℕ → ℕ → ℕ → ℕ → ℕ → Option ℕ
@@ -56,8 +56,7 @@ only_zeros at (b ∷ bs) h =
     λ i. z i ∷ only_zeros (at + 1) bs r i
 
 step_ok : (o : Option BlockFault) (r : Result Way BlockFault) (v : Way) → step_on o r ≡ Ok v → (o ≡ None) × (r ≡ Ok v)
-step_ok None r v h = (refl, h)
-step_ok (Some f) r v h = let z : ◌≡◌ {A = ℕ} 0 1 = cc in absurd (omega arith)
+step_ok o r v h = (grind arith, grind arith)
 
 -- the walk ends behind all the commands
 pub walk_far : (file number marked : ℕ) (w v : Way) (es : List Entry) → walk file number marked w es ≡ Ok v → v.at ≡ w.at + length (content es)
@@ -68,20 +67,14 @@ walk_far file number marked w v (e ∷ es) h =
     omega (arith, walk_far file number marked (onward w e) v es p.1, length-append (bytes_of e) (content es), length_bytes e)
 
 field_none : (file number base epoch : ℕ) (r : Refusal) (o : Option ℕ) → fault_at file number r base epoch o ≡ None → o ≡ None
-field_none file number base epoch r None h = refl
-field_none file number base epoch r (Some i) h = let z : ◌≡◌ {A = ℕ} 0 1 = cc in absurd (omega arith)
+field_none file number base epoch r o h = grind arith
 
 pub both_none : {A : Type 0} (o q : Option A) → first_some o q ≡ None → (o ≡ None) × (q ≡ None)
-both_none None q h = (refl, h)
-both_none (Some x) q h = let z : ◌≡◌ {A = ℕ} 0 1 = cc in absurd (omega arith)
+both_none o q h = (grind arith, grind arith)
 
 -- a command without a fault is in its place, with no field out of range
 pub placed_fields : (file number marked : ℕ) (w : Way) (e : Entry) → entry_fault file number marked w e ≡ None → (placed file w.opened e ≡ true) × (wrong_field marked e ≡ None)
-placed_fields file number marked w e h = by (placed file w.opened e) h
-  where
-    by : (b : Bool) → cond b (fault_at file number FieldOutOfRange w.at (epoch_after w.epoch e) (wrong_field marked e)) (Some (fault file number MisplacedCommand w.at w.epoch)) ≡ None → (b ≡ true) × (wrong_field marked e ≡ None)
-    by true h = (refl, field_none file number w.at (epoch_after w.epoch e) FieldOutOfRange (wrong_field marked e) h)
-    by false h = let z : ◌≡◌ {A = ℕ} 0 1 = cc in absurd (omega arith)
+placed_fields file number marked w e h = (grind arith, grind arith)
 
 tid_fits : (tid : ℕ) → wrong_tid tid ≡ None → tid < 2 ^ 64
 tid_fits tid h = grind (arith, nat_tests)
@@ -94,32 +87,22 @@ seconds_fit (pos n) h = record { sfits = (let b : n ≤ 1000000000 = grind (arit
 seconds_fit (negsuc n) h = record { sfits = (let b : n ≤ 999999999 = grind (arith, nat_tests) in omega arith) }
 
 value_fit : (i : ℕ) (v : ℤ) → wrong_value i v ≡ None → SFits w64 v
-value_fit i v h = by (value_fits v) refl h
-  where
-    by : (b : Bool) → value_fits v ≡ b → cond b None (Some i) ≡ None → SFits w64 v
-    by true e h = seconds_fit v e
-    by false e h = let z : ◌≡◌ {A = ℕ} 0 1 = cc in absurd (omega arith)
+value_fit i v h = seconds_fit v (grind arith)
 
 fields_fit : (marked : ℕ) (e : Entry) → wrong_field marked e ≡ None → Coded e → Fields e
-fields_fit marked (Txn tid) h c = tid_fits tid h
-fields_fit marked (Put key value) h c = (c, value_fit 18 value (both_none (wrong_kind 1 key) (wrong_value 18 value) h).1)
-fields_fit marked (Del key) h c = c
-fields_fit marked (Row tid key value) h c =
-    let p = both_none (wrong_row marked tid) (first_some (wrong_kind 9 key) (wrong_value 26 value)) h in
-    (row_fits marked tid p.0, c, value_fit 26 value (both_none (wrong_kind 9 key) (wrong_value 26 value) p.1).1)
-fields_fit marked (Gone tid key) h c = (row_fits marked tid (both_none (wrong_row marked tid) (wrong_kind 9 key) h).0, c)
+fields_fit marked e h c = grind (arith, tid_fits, row_fits, value_fit)
 
 -- commands without a fault fit their fields
-all_fields : (file number marked : ℕ) (w v : Way) (es : List Entry) → walk file number marked w es ≡ Ok v → AllByRecursion Coded es → AllByRecursion Fields es
+all_fields : (file number marked : ℕ) (w v : Way) (es : List Entry) → walk file number marked w es ≡ Ok v → All Coded es → All Fields es
 unfolding walk
-all_fields file number marked w v [] h c = tt
+all_fields file number marked w v [] h c = All-nil Fields
 all_fields file number marked w v (e ∷ es) h c =
     let p = step_ok (entry_fault file number marked w e) _ v h in
-    (fields_fit marked e (placed_fields file number marked w e p.0).1 c.0, all_fields file number marked (onward w e) v es p.1 c.1)
+    All-cons Fields e es (fields_fit marked e (placed_fields file number marked w e p.0).1 (All-head Coded e es c)) (all_fields file number marked (onward w e) v es p.1 (All-tail Coded e es c))
 
 came_through : (r : Result Way BlockFault) → is_ok r ≡ true → (v : Way) × (r ≡ Ok v)
 came_through (Ok v) h = (v, refl)
-came_through (Err f) h = let z : ◌≡◌ {A = ℕ} 0 1 = cc in absurd (omega arith)
+came_through (Err f) h = cc
 
 -- what a sealed block holds, part by part
 module _ (file number : ℕ) (cs : List ℕ) (room : length cs ≤ 502) where
@@ -188,7 +171,7 @@ block_reads_back file number marked bs es l is =
     let end : ended file number (8 + length cs) (Ok v) ≡ None = ap (λ t. cond t (Some (fault file number BadCommand v.at v.epoch)) None) (le-ltb v.at (8 + length cs) (omega arith)) in
     let commands : commands_fault file number marked (commands_in block) ≡ None = ap (commands_fault file number marked) (sealed_in file number cs l.room) ∙ ap (ended file number (8 + length cs)) walked ∙ end in
     ap (read_answer file number marked) is
-    ∙ sym (all_clean file number marked block
+    ∙ sym (no_fault file number marked block
     (ap (fault_at file number BadHeader 0 0) (sealed_header file number cs l.room l.listed l.numbered))
     (ap (fault_at file number BadSum 0 0) (sealed_summed file number cs l.room))
     (ap (fault_at file number BadPadding 0 0) (sealed_padded file number cs l.room))
@@ -196,12 +179,11 @@ block_reads_back file number marked bs es l is =
     ∙ ap (λ x. Ok (entries x)) (sealed_in file number cs l.room) ∙ ap (λ x. Ok x) read
 
 read_right : (o : Option BlockFault) (xs es : List Entry) → judged o xs ≡ Ok es → (o ≡ None) × (xs ≡ es)
-read_right None xs es h = (refl, cc)
-read_right (Some f) xs es h = let z : ◌≡◌ {A = ℕ} 0 1 = cc in absurd (omega arith)
+read_right o xs es h = (grind arith, grind arith)
 
 ended_right : (file number end : ℕ) (r : Result Way BlockFault) → ended file number end r ≡ None → (v : Way) × (r ≡ Ok v) × (end ≤ v.at)
 ended_right file number end (Ok v) h = (v, refl, grind (arith, nat_tests))
-ended_right file number end (Err f) h = let z : ◌≡◌ {A = ℕ} 0 1 = cc in absurd (omega arith)
+ended_right file number end (Err f) h = cc
 
 -- what the checks say of a block that passes them
 module _ (file number : ℕ) (bs : List ℕ) (long : length bs ≡ 512) (small : Bytes bs) where
@@ -253,11 +235,7 @@ commands_back file number marked ws small h =
     f.2 ∙ take_all k ws (omega (arith, e.2))
 
 sum_right : (bs : List ℕ) → wrong_sum bs ≡ None → number_at 2 510 bs ≡ fletcher16 (take 510 bs)
-sum_right bs h = by (eqb (number_at 2 510 bs) (fletcher16 (take 510 bs))) refl h
-  where
-    by : (t : Bool) → eqb (number_at 2 510 bs) (fletcher16 (take 510 bs)) ≡ t → ◌≡◌ {A = Option ℕ} (cond t None (Some 510)) None → number_at 2 510 bs ≡ fletcher16 (take 510 bs)
-    by true e h = eqb-true _ _ e
-    by false e h = let z : ◌≡◌ {A = ℕ} 0 1 = cc in absurd (omega arith)
+sum_right bs h = grind (arith, nat_tests)
 
 -- a block that is read is the block of the commands read
 pub block_only_written : (file number marked : ℕ) (bs : List ℕ) → length bs ≡ 512 → Bytes bs → OnlyWritten file number bs (read_answer file number marked bs)

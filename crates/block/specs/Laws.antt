@@ -1,6 +1,5 @@
 -- Writing and reading are the two sides of one thing.
-use Rattle.std.specs.Prelude.{◌≡◌, ℕ, ◌^◌, ◌<◌, ◌≤◌, true, List, length, is_ok, Ok, Result}
-use Rattle.std.specs.List.{AllByRecursion}
+use Rattle.std.specs.Prelude.{◌≡◌, ℕ, ◌^◌, ◌<◌, ◌≤◌, true, All, List, length, is_ok, Ok, Result}
 use Rattle.base.specs.Faults.{BlockFault}
 use Rattle.block.specs.declared.entry.Entry.{Entry}
 use Rattle.block.specs.declared.entry.Entry.TheVariants.{Txn, Put, Del, Row, Gone}
@@ -21,7 +20,7 @@ pub record Lawful (file number marked : ℕ) (es : List Entry) : Type 0 where
   pub numbered : number < 2 ^ 32
   pub room : length (content es) ≤ 502
   pub sound : is_ok (walk file number marked start es) ≡ true
-  pub codes : AllByRecursion Coded es
+  pub codes : All Coded es
 
 -- the block of lawful commands is answered with these commands
 abbrev pub ReadsBack : ℕ → ℕ → ℕ → List ℕ → Result (List Entry) BlockFault → Type 0

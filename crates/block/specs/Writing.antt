@@ -1,6 +1,5 @@
 -- What a writer answers: the block of the commands, or the first reason why there is none.
-use Rattle.std.specs.Prelude.{◌≡◌, ℕ, ◌+◌, ◌≤◌, cond, List, [], ◌∷◌, IfOk, Some, None, Ok, Err, Option, Result, nat_le, nat_lt}
-use Rattle.std.specs.List.{AllByRecursion}
+use Rattle.std.specs.Prelude.{◌≡◌, ℕ, ◌+◌, ◌≤◌, cond, All, List, [], ◌∷◌, IfOk, Some, None, Ok, Err, Option, Result, nat_le, nat_lt}
 use Rattle.base.specs.Limits.{last_epoch}
 use Rattle.base.specs.Tids.{epoch_of}
 use Rattle.base.specs.Faults.{BlockFault}
@@ -41,4 +40,4 @@ Reached marked (Gone tid key) = epoch_of tid ≤ marked
 
 -- a written block is read as its commands, under every marked epoch that reaches its rows
 abbrev pub ReadsAsWritten : ℕ → ℕ → List Entry → Result (List ℕ) WriteError → Type 0
-ReadsAsWritten file number es r = IfOk r (λ block. (marked : ℕ) → AllByRecursion (Reached marked) es → read_answer file number marked block ≡ Ok es)
+ReadsAsWritten file number es r = IfOk r (λ block. (marked : ℕ) → All (Reached marked) es → read_answer file number marked block ≡ Ok es)

@@ -1,31 +1,17 @@
 // What may be wrong with a command, for the writer and the reader alike.
-ghost use Rattle.std.specs.Prelude.{◌≡◌, ◌+◌, ◌^◌, ◌<◌, ◌≤◌};
-ghost use Rattle.block.specs.Checks.{fault, placed, wrong_field, wrong_tid, wrong_row, wrong_kind, wrong_value, epoch_or, epoch_after, opens, start, onward, entry_fault};
+ghost use Rattle.std.specs.Prelude.{◌≡◌, ◌+◌, ◌^◌, ◌<◌, ◌≤◌, OnOk};
+ghost use Rattle.block.specs.Checks.{placed, wrong_field, wrong_tid, wrong_row, wrong_kind, wrong_value, epoch_or, epoch_after, opens, start, onward, entry_fault, passed};
 ghost use Rattle.block.specs.Format.{size_of};
 ghost use Rattle.block.specs.Laws.{Coded};
 
+use crate::address::Address;
 use crate::entry::Entry;
 use crate::way::Way;
-use base::fault::{BlockFault, Place};
+use base::fault::BlockFault;
 use base::key::Key;
 use base::limits::{LAST_KIND, LOG_FILES, epoch_fits, value_fits};
 use base::refusal::Refusal;
 use base::tid::epoch_of;
-
-pub(crate) fn fault_at(file: u8, number: u32, refusal: Refusal, byte: u16, epoch: u32) -> BlockFault
-    ensures { result ≡ fault file number refusal byte epoch }
-{
-    BlockFault {
-        refusal,
-        at: Place {
-            file,
-            block: number,
-            byte,
-            epoch,
-        },
-        cause: None,
-    }
-}
 
 // Whether a command may stand here: transactions in logs, each TXN before its writes, and rows in parts.
 fn is_placed(file: u8, opened: bool, what: &Entry) -> bool
@@ -42,43 +28,32 @@ fn is_placed(file: u8, opened: bool, what: &Entry) -> bool
 fn wrong_tid(tid: u64) -> Option<u16>
     ensures { result ≡ wrong_tid tid }
 {
-    if epoch_fits(epoch_of(tid)) {
-        None
-    } else {
-        Some(1)
-    }
+    (!epoch_fits(epoch_of(tid))).then_some(1)
 }
 
 fn wrong_row(marked: u32, tid: u64) -> Option<u16>
     ensures { result ≡ wrong_row marked tid }
 {
-    let epoch = epoch_of(tid);
-    if epoch_fits(epoch) && epoch <= marked as u64 {
-        None
-    } else {
-        Some(1)
-    }
+    wrong_tid(tid).or((epoch_of(tid) > marked as u64).then_some(1))
 }
 
 fn wrong_kind(at: u16, key: Key) -> Option<u16>
-    ensures { result ≡ wrong_kind at key }
+    ensures answer { result ≡ wrong_kind at key }
+    ensures coded { key.code < 2 ^ 128 }
 {
-    if key.kind <= LAST_KIND {
-        None
-    } else {
-        Some(at)
-    }
+    (key.kind > LAST_KIND).then_some(at)
 }
 
 fn wrong_value(at: u16, value: i64) -> Option<u16>
     ensures { result ≡ wrong_value at value }
 {
-    if value_fits(value) { None } else { Some(at) }
+    (!value_fits(value)).then_some(at)
 }
 
 // The first field of a command that is out of range, by its place in the command.
 fn wrong_field(marked: u32, what: &Entry) -> Option<u16>
-    ensures { result ≡ wrong_field marked what.now }
+    ensures answer { result ≡ wrong_field marked what.now }
+    ensures coded { Coded what.now }
 {
     match *what {
         Entry::Txn { tid } => wrong_tid(tid),
@@ -103,10 +78,10 @@ fn epoch_after(epoch: u32, what: &Entry) -> u32
     ensures { result ≡ epoch_after epoch what.now }
 {
     match *what {
-        Entry::Txn { tid } => epoch_or(epoch, tid),
+        Entry::Txn { tid } | Entry::Row { tid, .. } | Entry::Gone { tid, .. } => epoch_or(
+            epoch, tid,
+        ),
         Entry::Put { .. } | Entry::Del { .. } => epoch,
-        Entry::Row { tid, .. } => epoch_or(epoch, tid),
-        Entry::Gone { tid, .. } => epoch_or(epoch, tid),
     }
 }
 
@@ -135,44 +110,25 @@ impl Way {
 }
 
 // What is wrong with a command: its place, else a field of it.
-pub(crate) fn entry_fault(
-    file: u8,
-    number: u32,
+pub(crate) fn check_entry(
+    at: Address,
     marked: u32,
     way: Way,
     what: &Entry,
-) -> Option<BlockFault>
+) -> Result<(), BlockFault>
     requires { way.at ≤ 510 }
-    ensures { result ≡ entry_fault file number marked way what.now }
+    ensures answer { result ≡ passed tt (entry_fault at.file at.number marked way what.now) }
+    ensures coded { OnOk result (Coded what.now) }
 {
-    if !is_placed(file, way.opened, what) {
-        return Some(fault_at(file, number, Refusal::MisplacedCommand, way.at, way.epoch));
+    if !is_placed(at.file, way.opened, what) {
+        return Err(at.fault(Refusal::MisplacedCommand, way.at, way.epoch));
     }
     match wrong_field(marked, what) {
-        None => None,
-        Some(i) => Some(fault_at(
-            file,
-            number,
+        None => Ok(()),
+        Some(i) => Err(at.fault(
             Refusal::FieldOutOfRange,
             way.at + i,
             epoch_after(way.epoch, what),
         )),
-    }
-}
-
-fn coded_key(key: Key)
-    ensures { key.code < 2 ^ 128 }
-{}
-
-// A code has 16 bytes by its type; this says so, for the proof of the writer, and does nothing.
-pub(crate) fn coded(what: &Entry)
-    ensures { Coded what.now }
-{
-    match *what {
-        Entry::Txn { .. } => {}
-        Entry::Put { key, .. } => coded_key(key),
-        Entry::Del { key } => coded_key(key),
-        Entry::Row { key, .. } => coded_key(key),
-        Entry::Gone { key, .. } => coded_key(key),
     }
 }

@@ -3,7 +3,8 @@ ghost use Rattle.std.specs.Prelude.{◌≡◌, ◌+◌, ◌-◌, ◌≤◌, leng
 
 mod filling;
 
-// The command bytes lie where the block will have them, and all behind them is zero.
+// The command bytes lie where the block will have them, and all behind them is zero, so that a block is one copy of
+// the array: out of an `ArrayVec` of command bytes it would be a copy and a filling up with zeros.
 #[derive(Clone, Copy)]
 pub struct Draft {
     bytes: [u8; 512],

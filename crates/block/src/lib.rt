@@ -1,6 +1,7 @@
 // The 512-byte block: its sum, its commands, the writer and the reader.
 #![tactic(auto)]
 
+pub mod address;
 mod checks;
 pub mod command;
 pub mod draft;

@@ -1,6 +1,6 @@
 // Writing a block of commands in one go.
 ghost use Rattle.std.specs.Prelude.{◌≡◌};
-ghost use Rattle.block.specs.declared.writer.WriteError.TheVariants.{Refused as refused};
+ghost use Rattle.block.specs.declared.writer.WriteError.TheVariants.{Refused as refused, Faulty as faulty};
 
 use base::fault::BlockFault;
 use base::refusal::Refusal;
@@ -21,5 +21,13 @@ impl From<Refusal> for WriteError {
 
     fn from(e: Refusal) -> WriteError {
         WriteError::Refused(e)
+    }
+}
+
+impl From<BlockFault> for WriteError {
+    ghost from_gives = { λ e r. r ≡ faulty e };
+
+    fn from(e: BlockFault) -> WriteError {
+        WriteError::Faulty(e)
     }
 }

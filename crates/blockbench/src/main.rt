@@ -5,6 +5,7 @@
 use anyhow::{Context, anyhow};
 use base::key::Key;
 use base::tid::tid_of;
+use block::address::Address;
 use block::entry::Entry;
 use block::reader::read;
 use block::writer::{WriteError, write_block};
@@ -76,7 +77,7 @@ fn sum_of(written: Result<[u8; 512], WriteError>) -> u64 {
 
 // The writes of a block, by the codes of their keys; 0 where the block is not read.
 fn codes_of(block: &[u8; 512], number: u32) -> u64 {
-    let Ok(commands) = read(block, 0, number, 1_000_000) else {
+    let Ok(commands) = read(block, Address { file: 0, number }, 1_000_000) else {
         return 0;
     };
     let mut all = 0u64;
@@ -91,7 +92,7 @@ fn codes_of(block: &[u8; 512], number: u32) -> u64 {
 fn some_blocks(heap: Global, entries: &[Entry]) -> Result<Vec<[u8; 512]>, AllocError> {
     let mut blocks = Vec::new(heap);
     for number in 0..BLOCKS {
-        if let Ok(block) = write_block(0, number, entries) {
+        if let Ok(block) = write_block(Address { file: 0, number }, entries) {
             blocks.push(block)?;
         }
     }
@@ -132,14 +133,14 @@ fn run(rt: &HostRuntime) -> anyhow::Result<()> {
     let blocks = some_blocks(heap, entries.as_slice())?;
     for line in rt.lines(heap) {
         let tally = match task_of(line?.as_str())? {
-            Task::Write(rounds) => tally_of(rounds, |n| Some(sum_of(write_block(0, n, &entries)))),
+            Task::Write(rounds) => tally_of(rounds, |n| Some(sum_of(write_block(Address { file: 0, number: n }, &entries)))),
             Task::Read(rounds) => tally_of(rounds, |n| {
                 let number = n % BLOCKS;
                 let block = blocks.get(number as usize)?;
                 Some(codes_of(block, number))
             }),
             Task::Bytes(rounds) => tally_of(rounds, |n| {
-                write_block(0, n, &entries)
+                write_block(Address { file: 0, number: n }, &entries)
                     .ok()
                     .map(|block| bytes_digest(&block))
             }),

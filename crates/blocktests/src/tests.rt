@@ -4,6 +4,7 @@ use base::fault::{BlockFault, Place};
 use base::key::Key;
 use base::refusal::Refusal;
 use base::tid::tid_of;
+use block::address::Address;
 use block::draft::Draft;
 use block::entry::Entry;
 use block::fletcher::fletcher16;
@@ -25,6 +26,13 @@ const GROUP: Key = Key {
 };
 
 const WRONG_KIND: Key = Key { kind: 4, code: 7 };
+
+fn address(file: u8) -> Address {
+    Address {
+        file,
+        number: NUMBER,
+    }
+}
 
 fn txn(tid: u64) -> Entry {
     Entry::Txn { tid }
@@ -82,9 +90,9 @@ fn part_entries(heap: Global, rows: u8, erased: u8) -> Result<Vec<Entry>, AllocE
 
 // Written, a block is read as the same commands, and as many bytes as they take.
 fn comes_back(rt: &impl Abort, file: u8, entries: &[Entry], bytes: u16) -> Result<(), Fail> {
-    let block = write_block(file, NUMBER, entries)?;
+    let block = write_block(address(file), entries)?;
     assert_eq!(rt; u16::from_be_bytes([block[2], block[3]]), bytes);
-    let commands = read(&block, file, NUMBER, MARKED)?;
+    let commands = read(&block, address(file), MARKED)?;
     assert!(rt;
         commands
             .map(|command| command.entry())
@@ -112,7 +120,11 @@ fn is_refused(
     marked: u32,
     wanted: BlockFault,
 ) -> Result<(), Fail> {
-    match read(block, wanted.at.file, wanted.at.block, marked) {
+    let at = Address {
+        file: wanted.at.file,
+        number: wanted.at.block,
+    };
+    match read(block, at, marked) {
         Ok(_) => Err(Fail::new("a wrong block is read")),
         Err(found) => {
             assert_eq!(rt; found, wanted);
@@ -127,7 +139,7 @@ fn draft_of(file: u8, entries: &[Entry]) -> Result<[u8; 512], Refusal> {
     for entry in entries {
         draft.push(*entry)?;
     }
-    draft.seal(file, NUMBER)
+    draft.seal(address(file))
 }
 
 #[test]
@@ -172,18 +184,18 @@ fn calls_are_refused(rt: HostRuntime) -> Result<(), Fail> {
     let no_room = WriteError::Refused(Refusal::NoRoomInBlock);
     for (txns, puts, dels) in [(3u8, 11u8, 11u8), (2, 12, 10), (1, 12, 11)] {
         assert_eq!(rt;
-            write_block(3, NUMBER, log_entries(heap, txns, puts, dels)?.as_slice()),
+            write_block(address(3), log_entries(heap, txns, puts, dels)?.as_slice()),
             Err(no_room)
         );
     }
     for (rows, erased) in [(1u8, 19u8), (4, 15), (15, 0)] {
         assert_eq!(rt;
-            write_block(7, NUMBER, part_entries(heap, rows, erased)?.as_slice()),
+            write_block(address(7), part_entries(heap, rows, erased)?.as_slice()),
             Err(no_room)
         );
     }
     assert_eq!(rt;
-        write_block(8, NUMBER, &[]),
+        write_block(address(8), &[]),
         Err(WriteError::Refused(Refusal::NoSuchIndex))
     );
     Ok(())
@@ -196,7 +208,7 @@ fn both_refuse(rt: &impl Abort, pairs: &[(Entry, Entry, BlockFault)]) -> Result<
         let block = draft_of(wanted.at.file, &entries)?;
         is_refused(rt, &block, MARKED, *wanted)?;
         assert_eq!(rt;
-            write_block(wanted.at.file, NUMBER, &entries),
+            write_block(address(wanted.at.file), &entries),
             Err(WriteError::Faulty(*wanted))
         );
     }
@@ -292,16 +304,16 @@ fn limits_are_kept(rt: HostRuntime) -> Result<(), Fail> {
     comes_back(&rt, 0, &[txn(last), put(SLOT, -1_000_000_000)], 35)?;
     comes_back(&rt, 7, &[row(last, key, 0), gone(last, SLOT)], 60)?;
     let rows = [row(tid_of(2, 0), SLOT, 1), gone(tid_of(3, 0), SLOT)];
-    let block = write_block(4, NUMBER, &rows)?;
+    let block = write_block(address(4), &rows)?;
     is_refused(&rt, &block, 2, fault(4, Refusal::FieldOutOfRange, 43, 3))?;
     is_refused(&rt, &block, 1, fault(4, Refusal::FieldOutOfRange, 9, 2))?;
-    assert!(rt; read(&block, 4, NUMBER, 3).is_ok());
+    assert!(rt; read(&block, address(4), 3).is_ok());
     Ok(())
 }
 
 // A block of 35 command bytes, whose last value ends in a zero byte.
 fn short_block() -> Result<[u8; 512], WriteError> {
-    write_block(0, NUMBER, &[txn(tid_of(3, 0)), put(SLOT, 0x300)])
+    write_block(address(0), &[txn(tid_of(3, 0)), put(SLOT, 0x300)])
 }
 
 // One byte is changed, and then the sum is made right: each later check is reached.
@@ -352,7 +364,7 @@ fn turned_bits_are_refused(rt: HostRuntime) -> Result<(), Fail> {
     let block = short_block()?;
     for (at, byte) in block.iter().enumerate() {
         for bit in [1u8, 2, 4, 8, 16, 32, 64, 128] {
-            assert!(rt; read(&damage(block, at, *byte ^ bit), 0, NUMBER, MARKED).is_err());
+            assert!(rt; read(&damage(block, at, *byte ^ bit), address(0), MARKED).is_err());
         }
     }
     Ok(())
@@ -362,7 +374,7 @@ fn turned_bits_are_refused(rt: HostRuntime) -> Result<(), Fail> {
 #[test]
 fn zero_and_255_sum_alike(rt: HostRuntime) -> Result<(), Fail> {
     let block = damage(short_block()?, 19, 255);
-    assert!(rt; read(&block, 0, NUMBER, MARKED).is_ok());
+    assert!(rt; read(&block, address(0), MARKED).is_ok());
     assert_eq!(rt; reseal(block), block);
     Ok(())
 }

@@ -3,6 +3,7 @@ use base::group::Group;
 use base::key::{Key, Slot};
 use base::limits::LAST_EPOCH;
 use base::tid::tid_of;
+use block::address::Address;
 use block::entry::Entry;
 use std::alloc::{AllocError, Global};
 use std::num::ParseIntError;
@@ -27,24 +28,18 @@ pub enum Mistake {
     Memory(#[from(alloc)] AllocError),
 }
 
-// The place that a block is written for.
-#[derive(Clone, Copy)]
-pub struct Target {
-    pub file: u8,
-    pub number: u32,
-}
-
 #[derive(Clone, Copy)]
 enum Line {
     Blank,
-    Block(Target),
+    Block(Address),
     Marked(u32),
     Command(Entry),
 }
 
 #[derive(Drop)]
 pub struct Script {
-    pub target: Option<Target>,
+    // The place that a block is written for.
+    pub target: Option<Address>,
     pub marked: u32,
     pub entries: Vec<Entry>,
 }
@@ -75,7 +70,7 @@ fn parse_line(heap: Global, text: &str) -> Result<Line, Mistake> {
     let words = said.split_whitespace().collect::<Vec<&str>>(heap)?;
     match words.as_slice() {
         [] => Ok(Line::Blank),
-        ["block", file, number] => Ok(Line::Block(Target {
+        ["block", file, number] => Ok(Line::Block(Address {
             file: file.parse::<u8>()?,
             number: number.parse::<u32>()?,
         })),

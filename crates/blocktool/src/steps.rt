@@ -1,7 +1,8 @@
 // The steps of the tool: write, show, read back, change.
-use crate::script::{Script, Target};
+use crate::script::Script;
 use crate::show::{Hex, Shown};
 use anyhow::anyhow;
+use block::address::Address;
 use block::command::Commands;
 use block::reader::read;
 use block::sizes::{COMMANDS, SUM};
@@ -34,10 +35,10 @@ fn show_commands(rt: &HostRuntime, commands: Commands<'_>) -> anyhow::Result<()>
 fn show_reading(
     rt: &HostRuntime,
     block: &[u8; 512],
-    target: Target,
+    target: Address,
     marked: u32,
 ) -> anyhow::Result<()> {
-    match read(block, target.file, target.number, marked) {
+    match read(block, target, marked) {
         Ok(commands) => show_commands(rt, commands),
         Err(fault) => Ok(println!(rt; "  fault {}", Shown(fault))?),
     }
@@ -52,7 +53,7 @@ fn padding_at(block: &[u8; 512]) -> Option<usize> {
 fn show_changes(
     rt: &HostRuntime,
     block: [u8; 512],
-    target: Target,
+    target: Address,
     marked: u32,
 ) -> anyhow::Result<()> {
     let Some(at) = padding_at(&block) else {
@@ -85,7 +86,7 @@ pub(crate) fn run(rt: &HostRuntime, script: &Script) -> anyhow::Result<()> {
     let marked = script.marked;
     let count = script.entries.len();
     println!(rt; "Writing {count} commands as block {number} of file {file}:")?;
-    match write_block(file, number, script.entries.as_slice()) {
+    match write_block(target, script.entries.as_slice()) {
         Err(error) => show_refusal(rt, error),
         Ok(block) => {
             show_block(rt, &block)?;

@@ -8,11 +8,11 @@ ghost use Rattle.block.specs.Format.{header, key_bytes, value_bytes, bytes_of, s
 ghost use Rattle.base.specs.Bytes.{be};
 
 use super::Draft;
+use crate::address::Address;
 use crate::entry::{DEL, Entry, GONE, PUT, ROW, TXN};
 use crate::fletcher::fletcher16;
 use crate::sizes::{BLOCK, COMMANDS, ROOM, SUM, TAG};
 use base::key::Key;
-use base::limits::FILES;
 use base::refusal::Refusal;
 
 impl Draft {
@@ -57,29 +57,13 @@ impl Draft {
         self.used = self.used + N;
     }
 
-    fn append_tid(&mut self, tid: u64)
-        requires { self.old.used + 8 ≤ 502 }
-        ensures bytes { written self.new ≡ written self.old ++ be 8 tid }
-        ensures len { self.new.used ≡ self.old.used + 8 }
-    {
-        self.append(&tid.to_be_bytes());
-    }
-
     fn append_key(&mut self, key: Key)
         requires { self.old.used + 17 ≤ 502 }
         ensures bytes { written self.new ≡ written self.old ++ key_bytes key }
         ensures len { self.new.used ≡ self.old.used + 17 }
     {
         self.append(&[key.kind]);
-        self.append(&code_bytes(key.code));
-    }
-
-    fn append_value(&mut self, value: i64)
-        requires { self.old.used + 8 ≤ 502 }
-        ensures bytes { written self.new ≡ written self.old ++ value_bytes value }
-        ensures len { self.new.used ≡ self.old.used + 8 }
-    {
-        self.append(&value.to_be_bytes());
+        self.append(&key.code.to_be_bytes());
     }
 
     fn append_entry(&mut self, what: Entry)
@@ -90,12 +74,12 @@ impl Draft {
         match what {
             Entry::Txn { tid } => {
                 self.append(&[TXN]);
-                self.append_tid(tid);
+                self.append(&tid.to_be_bytes());
             }
             Entry::Put { key, value } => {
                 self.append(&[PUT]);
                 self.append_key(key);
-                self.append_value(value);
+                self.append(&value.to_be_bytes());
             }
             Entry::Del { key } => {
                 self.append(&[DEL]);
@@ -103,13 +87,13 @@ impl Draft {
             }
             Entry::Row { tid, key, value } => {
                 self.append(&[ROW]);
-                self.append_tid(tid);
+                self.append(&tid.to_be_bytes());
                 self.append_key(key);
-                self.append_value(value);
+                self.append(&value.to_be_bytes());
             }
             Entry::Gone { tid, key } => {
                 self.append(&[GONE]);
-                self.append_tid(tid);
+                self.append(&tid.to_be_bytes());
                 self.append_key(key);
             }
         }
@@ -128,45 +112,31 @@ impl Draft {
     }
 
     // The block of these commands, for a place in a file.
-    pub fn seal(&self, file: u8, number: u32) -> Result<[u8; 512], Refusal>
-        ensures { result ≡ seal_answer file number (written self.now) }
+    pub fn seal(&self, at: Address) -> Result<[u8; 512], Refusal>
+        ensures { result ≡ seal_answer at.file at.number (written self.now) }
     {
-        if file as usize >= FILES {
-            return Err(Refusal::NoSuchIndex);
-        }
-        Ok(self.image(file, number))
+        at.check_file()?;
+        Ok(self.image(at))
     }
 
-    pub(crate) fn image(&self, file: u8, number: u32) -> [u8; 512]
-        ensures { result ≡ sealed file number (written self.now) }
+    pub(crate) fn image(&self, at: Address) -> [u8; 512]
+        ensures { result ≡ sealed at.file at.number (written self.now) }
     {
         let mut block = self.bytes;
-        block[0..COMMANDS].copy_from_slice(&head(file, self.used as u16, number));
-        let sum = sum_bytes(&block);
-        block[SUM..BLOCK].copy_from_slice(&sum);
+        block[0..COMMANDS].copy_from_slice(&head(at, self.used as u16));
+        // The sum goes over every byte before it, padding included.
+        let sum = fletcher16(&block[0..SUM]);
+        block[SUM..BLOCK].copy_from_slice(&sum.to_be_bytes());
         block
     }
 }
 
-fn code_bytes(code: u128) -> [u8; 16]
-    ensures { result ≡ be 16 code }
-{
-    code.to_be_bytes()
-}
-
-// The sum goes over every byte before it, padding included.
-fn sum_bytes(block: &[u8; 512]) -> [u8; 2]
-    ensures { result ≡ be 2 (sum_of (take 510 block.now)) }
-{
-    fletcher16(&block[0..SUM]).to_be_bytes()
-}
-
-fn head(file: u8, n: u16, number: u32) -> [u8; 8]
-    ensures { result ≡ header file n number }
+fn head(at: Address, n: u16) -> [u8; 8]
+    ensures { result ≡ header at.file n at.number }
 {
     let n = n.to_be_bytes();
-    let number = number.to_be_bytes();
+    let number = at.number.to_be_bytes();
     [
-        TAG, file, n[0], n[1], number[0], number[1], number[2], number[3],
+        TAG, at.file, n[0], n[1], number[0], number[1], number[2], number[3],
     ]
 }

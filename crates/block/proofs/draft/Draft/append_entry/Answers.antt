@@ -1,39 +1,40 @@
-use Rattle.std.proofs.Common.{[], ◌∷◌, ◌++◌, sym, ap, ◌∙◌, arith, w64, SFits, rules}
+use Rattle.std.proofs.Common.{[], ◌∷◌, ◌++◌, refl, sym, ap, ◌∙◌, w64, SFits, rules}
 use Rattle.std.proofs.lemmas.Int.{to_z-of_z}
 use Rattle.base.specs.Bytes.{be}
 use Rattle.block.specs.Drafts.{written}
-use Rattle.block.specs.Format.{bytes_of, size_of, key_bytes, value_bytes}
-use Rattle.block.proofs.Laying.{joins}
+use Rattle.block.specs.Format.{bytes_of, key_bytes, value_bytes}
+use Rattle.block.proofs.Laying.{joins, be_same}
 use Rattle.block.proofs.draft.Draft.append_entry.Goals as goal
 
-pub returns-in-Txn : goal.returns-in-Txn
-returns-in-Txn c =
-    let w = written c.args.self.now in
-    let all = joins w _ _ (1 ∷ []) (be 8 c.in-Txn.tid) c.append.ensures.bytes c.append_tid.ensures.bytes in
-    record { bytes = all ∙ ap (λ e. w ++ bytes_of e) (sym c.in-Txn.is); len = omega (arith, ap size_of c.in-Txn.is, c.append.ensures.len, c.append_tid.ensures.len) }
-
-pub returns-in-Put : goal.returns-in-Put
-returns-in-Put c =
+pub returns-in-Put-clause-bytes : goal.returns-in-Put-clause-bytes
+returns-in-Put-clause-bytes c =
     let fit : SFits w64 c.in-Put.value = search rules in
     let w = written c.args.self.now in
-    let all = joins w _ _ (2 ∷ []) ((key_bytes c.in-Put.key) ++ (value_bytes c.in-Put.value)) c.append-in-Put.ensures.bytes (joins (written c.append-in-Put.new.self) _ _ (key_bytes c.in-Put.key) (value_bytes c.in-Put.value) c.append_key.ensures.bytes (c.append_value.ensures.bytes ∙ ap (λ v. written c.append_key.new.self ++ value_bytes v) (to_z-of_z w64 c.in-Put.value fit))) in
-    record { bytes = all ∙ ap (λ e. w ++ bytes_of e) (sym c.in-Put.is); len = omega (arith, ap size_of c.in-Put.is, c.append-in-Put.ensures.len, c.append_key.ensures.len, c.append_value.ensures.len) }
+    let key = key_bytes c.in-Put.key in
+    let value = value_bytes c.in-Put.value in
+    let rest = joins (written c.append-in-Put.new.self) key value c.append_key.ensures.bytes c.append-in-Put-2.ensures.bytes (c.to_be_bytes-in-Put.ensures ∙ be_same 8 _ ∙ ap value_bytes (to_z-of_z w64 c.in-Put.value fit)) in
+    joins w (2 ∷ []) (key ++ value) c.append-in-Put.ensures.bytes rest refl ∙ ap (λ e. w ++ bytes_of e) (sym c.in-Put.is)
 
-pub returns-in-Del : goal.returns-in-Del
-returns-in-Del c =
+pub returns-in-Del-clause-bytes : goal.returns-in-Del-clause-bytes
+returns-in-Del-clause-bytes c =
     let w = written c.args.self.now in
-    let all = joins w _ _ (3 ∷ []) (key_bytes c.in-Del.key) c.append-in-Del.ensures.bytes c.append_key-in-Del.ensures.bytes in
-    record { bytes = all ∙ ap (λ e. w ++ bytes_of e) (sym c.in-Del.is); len = omega (arith, ap size_of c.in-Del.is, c.append-in-Del.ensures.len, c.append_key-in-Del.ensures.len) }
+    joins w (3 ∷ []) (key_bytes c.in-Del.key) c.append-in-Del.ensures.bytes c.append_key-in-Del.ensures.bytes refl ∙ ap (λ e. w ++ bytes_of e) (sym c.in-Del.is)
 
-pub returns-in-Row : goal.returns-in-Row
-returns-in-Row c =
+pub returns-in-Row-clause-bytes : goal.returns-in-Row-clause-bytes
+returns-in-Row-clause-bytes c =
     let fit : SFits w64 c.in-Row.value = search rules in
     let w = written c.args.self.now in
-    let all = joins w _ _ (4 ∷ []) ((be 8 c.in-Row.tid) ++ ((key_bytes c.in-Row.key) ++ (value_bytes c.in-Row.value))) c.append-in-Row.ensures.bytes (joins (written c.append-in-Row.new.self) _ _ (be 8 c.in-Row.tid) ((key_bytes c.in-Row.key) ++ (value_bytes c.in-Row.value)) c.append_tid-in-Row.ensures.bytes (joins (written c.append_tid-in-Row.new.self) _ _ (key_bytes c.in-Row.key) (value_bytes c.in-Row.value) c.append_key-in-Row.ensures.bytes (c.append_value-in-Row.ensures.bytes ∙ ap (λ v. written c.append_key-in-Row.new.self ++ value_bytes v) (to_z-of_z w64 c.in-Row.value fit)))) in
-    record { bytes = all ∙ ap (λ e. w ++ bytes_of e) (sym c.in-Row.is); len = omega (arith, ap size_of c.in-Row.is, c.append-in-Row.ensures.len, c.append_tid-in-Row.ensures.len, c.append_key-in-Row.ensures.len, c.append_value-in-Row.ensures.len) }
+    let tid = be 8 c.in-Row.tid in
+    let key = key_bytes c.in-Row.key in
+    let value = value_bytes c.in-Row.value in
+    let tail = joins (written c.append-in-Row-2.new.self) key value c.append_key-in-Row.ensures.bytes c.append-in-Row-3.ensures.bytes (c.to_be_bytes-in-Row-2.ensures ∙ be_same 8 _ ∙ ap value_bytes (to_z-of_z w64 c.in-Row.value fit)) in
+    let rest = joins (written c.append-in-Row.new.self) tid (key ++ value) (c.append-in-Row-2.ensures.bytes ∙ ap (λ l. written c.append-in-Row.new.self ++ l) (c.to_be_bytes-in-Row.ensures ∙ be_same 8 c.in-Row.tid)) tail refl in
+    joins w (4 ∷ []) (tid ++ (key ++ value)) c.append-in-Row.ensures.bytes rest refl ∙ ap (λ e. w ++ bytes_of e) (sym c.in-Row.is)
 
-pub returns-in-Gone : goal.returns-in-Gone
-returns-in-Gone c =
+pub returns-in-Gone-clause-bytes : goal.returns-in-Gone-clause-bytes
+returns-in-Gone-clause-bytes c =
     let w = written c.args.self.now in
-    let all = joins w _ _ (5 ∷ []) ((be 8 c.in-Gone.tid) ++ (key_bytes c.in-Gone.key)) c.append-in-Gone.ensures.bytes (joins (written c.append-in-Gone.new.self) _ _ (be 8 c.in-Gone.tid) (key_bytes c.in-Gone.key) c.append_tid-in-Gone.ensures.bytes c.append_key-in-Gone.ensures.bytes) in
-    record { bytes = all ∙ ap (λ e. w ++ bytes_of e) (sym c.in-Gone.is); len = omega (arith, ap size_of c.in-Gone.is, c.append-in-Gone.ensures.len, c.append_tid-in-Gone.ensures.len, c.append_key-in-Gone.ensures.len) }
+    let tid = be 8 c.in-Gone.tid in
+    let key = key_bytes c.in-Gone.key in
+    let rest = joins (written c.append-in-Gone.new.self) tid key (c.append-in-Gone-2.ensures.bytes ∙ ap (λ l. written c.append-in-Gone.new.self ++ l) (c.to_be_bytes-in-Gone.ensures ∙ be_same 8 c.in-Gone.tid)) c.append_key-in-Gone.ensures.bytes refl in
+    joins w (5 ∷ []) (tid ++ key) c.append-in-Gone.ensures.bytes rest refl ∙ ap (λ e. w ++ bytes_of e) (sym c.in-Gone.is)

@@ -1,5 +1,5 @@
 use Rattle.std.proofs.Common.{◌≡◌, ◌+◌, ◌≤◌, length, take, drop}
-use Rattle.std.specs.List.{AllByRecursion}
+use Rattle.std.specs.Prelude.{All}
 use Rattle.block.specs.Checks.{start}
 use Rattle.block.specs.Laws.{Coded}
 use Rattle.block.specs.Drafts.{written}
@@ -13,5 +13,5 @@ invariant-loop-what l =
     (written l.draft ≡ content (take l.what-index l.entries))
     × (l.way.at ≡ 8 + length (written l.draft))
     × (length (written l.draft) ≤ 502)
-    × (unwritable l.file l.number l.way (drop l.what-index l.entries) ≡ unwritable l.file l.number start l.entries)
-    × AllByRecursion Coded (take l.what-index l.entries)
+    × (unwritable l.at.file l.at.number l.way (drop l.what-index l.entries) ≡ unwritable l.at.file l.at.number start l.entries)
+    × All Coded (take l.what-index l.entries)

@@ -1,6 +1,6 @@
 use Rattle.std.proofs.Common.{◌≡◌, ◌+◌, ◌*◌, ◌%◌, ◌≤◌, take, fold}
 use Rattle.block.specs.Fletcher.{Sums, add_byte}
-use Rattle.block.proofs.fletcher.add_run.Given as goal
+use Rattle.block.proofs.fletcher.Sums.add_run.Given as goal
 
 -- both sums are right but for multiples of 255, and small enough to go on
 abbrev pub invariant-loop-b : goal.invariant-loop-b
