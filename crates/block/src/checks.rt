@@ -1,7 +1,6 @@
 // What may be wrong with a command, for the writer and the reader alike.
-ghost use Rattle.std.specs.Prelude.{◌≡◌, ◌+◌, ◌^◌, ◌<◌, ◌≤◌, OnOk};
-ghost use Rattle.block.specs.Checks.{placed, wrong_field, wrong_tid, wrong_row, wrong_kind, wrong_value, epoch_or, epoch_after, opens, start, onward, entry_fault, passed};
-ghost use Rattle.block.specs.Format.{size_of};
+ghost use Rattle.std.specs.Prelude.{◌≡◌, ◌^◌, ◌<◌, ◌≤◌, OnOk};
+ghost use Rattle.block.specs.Checks.{placed, wrong_field, wrong_tid, wrong_row, wrong_kind, wrong_value, epoch_or, epoch_after, start, onward, entry_fault, passed};
 ghost use Rattle.block.specs.Laws.{Coded};
 
 use crate::address::Address;
@@ -37,6 +36,7 @@ fn wrong_row(marked: u32, tid: u64) -> Option<u16>
     wrong_tid(tid).or((epoch_of(tid) > marked as u64).then_some(1))
 }
 
+// `coded` is what the type of a code says: that a written block reads back rests on it.
 fn wrong_kind(at: u16, key: Key) -> Option<u16>
     ensures answer { result ≡ wrong_kind at key }
     ensures coded { key.code < 2 ^ 128 }
@@ -78,9 +78,9 @@ fn epoch_after(epoch: u32, what: &Entry) -> u32
     ensures { result ≡ epoch_after epoch what.now }
 {
     match *what {
-        Entry::Txn { tid } | Entry::Row { tid, .. } | Entry::Gone { tid, .. } => epoch_or(
-            epoch, tid,
-        ),
+        Entry::Txn { tid } | Entry::Row { tid, .. } | Entry::Gone { tid, .. } => {
+            epoch_or(epoch, tid)
+        }
         Entry::Put { .. } | Entry::Del { .. } => epoch,
     }
 }

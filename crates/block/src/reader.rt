@@ -1,5 +1,5 @@
 // Reading a block: its checks, in the order in which they count, and then its commands.
-ghost use Rattle.std.specs.Prelude.{◌≡◌, ℕ, ◌+◌, ◌<◌, ◌≤◌, length, take, drop, IfOk};
+ghost use Rattle.std.specs.Prelude.{◌≡◌, ◌+◌, ◌≤◌, length, take, drop, IfOk};
 ghost use Rattle.base.specs.Bytes.{number_at};
 ghost use Rattle.block.specs.Checks.{wrong_header, summed_right, wrong_sum, nonzero, passed, header_fault, sum_fault, padding_fault, commands_fault, read_answer};
 ghost use Rattle.block.specs.Commands.{answered};
@@ -12,7 +12,6 @@ use crate::fletcher::fletcher16;
 use crate::sizes::{COMMANDS, ROOM, SUM, TAG};
 use crate::way::Way;
 use base::fault::BlockFault;
-use base::limits::FILES;
 use base::refusal::Refusal;
 
 // So many bytes of a block, from one place on.
@@ -45,7 +44,7 @@ fn wrong_header(block: &[u8; 512], at: Address) -> Option<u16>
     if block[0] != TAG {
         return Some(0);
     }
-    if block[1] != at.file || at.file as usize >= FILES {
+    if block[1] != at.file || at.check_file().is_err() {
         return Some(1);
     }
     if two_at(block, 2) as usize > ROOM {

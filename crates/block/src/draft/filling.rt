@@ -1,11 +1,9 @@
 // Filling a draft, and making a block of it.
-ghost use Rattle.std.specs.Prelude.{◌≡◌, ◌+◌, ◌-◌, ◌≤◌, true, [], ◌∷◌, ◌++◌, length, take, ◌==◌};
+ghost use Rattle.std.specs.Prelude.{◌≡◌, ◌+◌, ◌-◌, ◌≤◌, true, [], ◌++◌, length, ◌==◌};
 ghost use Rattle.block.specs.Drafts.{written, push_answer, push_after, seal_answer};
 ghost use Rattle.block.specs.Fitting.{fits, room};
-ghost use Rattle.block.specs.Fletcher.{fletcher16 as sum_of};
 ghost use Rattle.block.specs.Filling.{GoesIn};
-ghost use Rattle.block.specs.Format.{header, key_bytes, value_bytes, bytes_of, size_of, sealed};
-ghost use Rattle.base.specs.Bytes.{be};
+ghost use Rattle.block.specs.Format.{header, key_bytes, bytes_of, size_of, sealed};
 
 use super::Draft;
 use crate::address::Address;
