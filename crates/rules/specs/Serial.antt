@@ -4,7 +4,7 @@ use Rattle.base.specs.declared.key.Key.{Key}
 use Rattle.table.specs.Order.{same_key}
 use Rattle.rules.specs.declared.call.Call.{Call}
 use Rattle.rules.specs.declared.call.Call.TheVariants as call
-use Rattle.rules.specs.declared.call.Reply.TheVariants.{Number, Cell as CellSeen}
+use Rattle.rules.specs.declared.call.Reply.TheVariants.{Number, Cell as CellAnswer}
 use Rattle.rules.specs.declared.call.Event.{Event}
 use Rattle.rules.specs.State.{Cell}
 use Rattle.rules.specs.Calls.{Answer}
@@ -85,7 +85,7 @@ told_cell s _ c = s
 
 abbrev pub told_by : Story → Call → Answer → Story
 told_by s c (Ok (Number n)) = told_number s c n
-told_by s c (Ok (CellSeen x)) = told_cell s c x
+told_by s c (Ok (CellAnswer x)) = told_cell s c x
 told_by s c (Err e) = s
 
 abbrev pub told : Story → Event → Story

@@ -10,7 +10,7 @@ use Rattle.medium.specs.Sound.{fresh_of}
 use Rattle.table.specs.declared.record.Record.{Record}
 use Rattle.rules.specs.declared.call.Call.{Call}
 use Rattle.rules.specs.declared.call.Call.TheVariants.{Begin, Read, Write, Erase, Lock, Validate, Install, Advance, Spill, Sync, Persist, Release, CheckpointStart, CheckpointStep, CheckpointClose}
-use Rattle.rules.specs.declared.call.Reply.TheVariants.{Number, Cell as CellSeen}
+use Rattle.rules.specs.declared.call.Reply.TheVariants.{Number, Cell as CellAnswer}
 use Rattle.rules.specs.declared.call.Event.{Event}
 use Rattle.rules.specs.State.{Cell, State}
 use Rattle.rules.specs.Calls.{Answer, opened, played, history}
@@ -141,7 +141,7 @@ abbrev pub looked : List Call
 looked = Begin 2 ∷ Read 2 (key 7) ∷ Lock 2 ∷ Validate 2 ∷ Install 2 ∷ Advance ∷ Persist ∷ Release 0 ∷ []
 
 pub record ReadOnly : Type 0 where
-  pub absent : answer_at 1 looked ≡ Ok (CellSeen None)
+  pub absent : answer_at 1 looked ≡ Ok (CellAnswer None)
   pub tid : answer_at 3 looked ≡ Ok (Number 65536)
   pub released : answer_at 7 looked ≡ Ok (Number 0)
 
