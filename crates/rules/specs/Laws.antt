@@ -6,13 +6,14 @@ use Rattle.medium.specs.Steps.{append_after, sync_after, retire_after, set_mark_
 use Rattle.medium.specs.declared.mark.Mark.{Mark}
 use Rattle.rules.specs.declared.call.Call.{Call}
 use Rattle.rules.specs.declared.call.Call.TheVariants as call
-use Rattle.rules.specs.State.{Worker, Logger, State}
+use Rattle.rules.specs.State.{Worker, Logger, State, tid_in}
 use Rattle.medium.specs.Sound.{Fresh}
 use Rattle.rules.specs.Logging.{held_epoch}
 use Rattle.rules.specs.Calls.{rule, played, history, opened}
 use Rattle.rules.specs.Serial.{Story, story_from}
 use Rattle.rules.specs.Recovery.{Version, offered}
 use Rattle.table.specs.Order.{sorted}
+use Rattle.table.specs.Records.{look}
 use Rattle.table.specs.declared.record.Record.{Record}
 
 -- a refused call leaves everything as it was
@@ -38,6 +39,10 @@ Compatible u v = u.key ≡ v.key → u.tid ≡ v.tid → u.cell ≡ v.cell
 -- two versions may be replayed in either order
 abbrev pub EitherOrder : Type 0
 EitherOrder = (u v : Version) (t : List Record) → sorted t ≡ true → Compatible u v → offered u (offered v t) ≡ offered v (offered u t)
+
+-- a version whose TID is not larger than that of its key's record changes nothing
+abbrev pub OnlyLargerReplaces : Type 0
+OnlyLargerReplaces = (v : Version) (t : List Record) → v.tid ≤ tid_in (look v.key t) → offered v t ≡ t
 
 -- behind an epoch, or nothing at all
 abbrev pub Above : ℕ → Option ℕ → Type 0
