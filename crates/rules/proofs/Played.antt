@@ -15,32 +15,37 @@ use Rattle.rules.specs.Serial.{story_from, serial, after_run}
 use Rattle.rules.specs.SmallNights.{Survives, IsLost, LogHasIt, LockOrder, HoldsBack, StaysDeleted, ReadOnly, SmallNights}
 use Rattle.rules.specs.Transactions.{begin_rule, read_rule, change_rule, lock_rule, next_tid, validate_rule, install_rule}
 
-pub survives : Survives
+-- what the computation of a night opens
+a_night : Type 0
 unfolding walk read_answer sums fletcher16 sealed entries before same_key behind look put take_out rule played history start_rule step_rule close_rule advance_rule spill_rule persistent release_rule replays start_recovery replay_rule finish_rule story_from serial after_run begin_rule read_rule change_rule lock_rule next_tid validate_rule install_rule
+a_night = SmallNights
+
+survives : Survives
+unfolding a_night
 survives = record { persisted = refl; released = refl; there = refl; serial = refl }
 
-pub is_lost : IsLost
-unfolding walk read_answer sums fletcher16 sealed entries before same_key behind look put take_out rule played history start_rule step_rule close_rule advance_rule spill_rule persistent release_rule replays start_recovery replay_rule finish_rule story_from serial after_run begin_rule read_rule change_rule lock_rule next_tid validate_rule install_rule
+is_lost : IsLost
+unfolding a_night
 is_lost = record { persisted = refl; withheld = refl; gone = refl; serial = refl }
 
-pub log_has_it : LogHasIt
-unfolding walk read_answer sums fletcher16 sealed entries before same_key behind look put take_out rule played history start_rule step_rule close_rule advance_rule spill_rule persistent release_rule replays start_recovery replay_rule finish_rule story_from serial after_run begin_rule read_rule change_rule lock_rule next_tid validate_rule install_rule
+log_has_it : LogHasIt
+unfolding a_night
 log_has_it = record { from_part = refl; from_log = refl; serial = refl }
 
-pub lock_order : LockOrder
-unfolding walk read_answer sums fletcher16 sealed entries before same_key behind look put take_out rule played history start_rule step_rule close_rule advance_rule spill_rule persistent release_rule replays start_recovery replay_rule finish_rule story_from serial after_run begin_rule read_rule change_rule lock_rule next_tid validate_rule install_rule
+lock_order : LockOrder
+unfolding a_night
 lock_order = record { second = refl; first = refl; one = refl; other = refl }
 
-pub holds_back : HoldsBack
-unfolding walk read_answer sums fletcher16 sealed entries before same_key behind look put take_out rule played history start_rule step_rule close_rule advance_rule spill_rule persistent release_rule replays start_recovery replay_rule finish_rule story_from serial after_run begin_rule read_rule change_rule lock_rule next_tid validate_rule install_rule
+holds_back : HoldsBack
+unfolding a_night
 holds_back = record { persisted = refl; refused = refl; nothing_yet = refl }
 
-pub stays_deleted : StaysDeleted
-unfolding walk read_answer sums fletcher16 sealed entries before same_key behind look put take_out rule played history start_rule step_rule close_rule advance_rule spill_rule persistent release_rule replays start_recovery replay_rule finish_rule story_from serial after_run begin_rule read_rule change_rule lock_rule next_tid validate_rule install_rule
+stays_deleted : StaysDeleted
+unfolding a_night
 stays_deleted = record { newer = refl; in_force = refl; absent = refl; serial = refl }
 
-pub read_only : ReadOnly
-unfolding walk read_answer sums fletcher16 sealed entries before same_key behind look put take_out rule played history start_rule step_rule close_rule advance_rule spill_rule persistent release_rule replays start_recovery replay_rule finish_rule story_from serial after_run begin_rule read_rule change_rule lock_rule next_tid validate_rule install_rule
+read_only : ReadOnly
+unfolding a_night
 read_only = record { absent = refl; tid = refl; released = refl }
 
 pub small_nights : SmallNights

@@ -1,5 +1,6 @@
 -- One rule for each call, from state and arguments to state and answer.
-use Rattle.std.specs.Prelude.{ℕ, ◌+◌, ◌-◌, Bool, true, cond, not, ◌&&◌, List, [], ◌∷◌, ◌++◌, length, replicate, Some, None, Ok, Err, Option, Result, ◌==◌, bit_or, count_ones, nat_lt, slice_index, slice_index_or, slice_set}
+use Rattle.std.specs.Prelude.{ℕ, ◌+◌, ◌-◌, Bool, cond, not, ◌&&◌, List, [], ◌∷◌, ◌++◌, length, replicate, sum_by, Some, None, Ok, Err, Option, Result, ◌==◌, bit_or, count_ones, nat_lt, slice_index, slice_index_or, slice_set}
+use Rattle.std.specs.List.{list_all}
 use Rattle.base.specs.declared.refusal.Refusal.{Refusal}
 use Rattle.base.specs.declared.refusal.Refusal.TheVariants.{MasksUnfit, MediumNotFresh, NoSuchIndex, NoCheckpointWalking}
 use Rattle.medium.specs.Model.{FileModel, MediumModel, file_of, count_of}
@@ -8,18 +9,17 @@ use Rattle.medium.specs.Steps.{sync_answer, sync_after, retire_answer, retire_af
 use Rattle.table.specs.Records.{look}
 use Rattle.rules.specs.declared.call.Call.{Call}
 use Rattle.rules.specs.declared.call.Call.TheVariants as call
-use Rattle.rules.specs.declared.call.Answer.{Answer}
-use Rattle.rules.specs.declared.call.Answer.TheVariants.{Number, Cell as Seen, No}
+use Rattle.rules.specs.declared.call.Reply.{Reply}
+use Rattle.rules.specs.declared.call.Reply.TheVariants.{Number, Cell as Seen}
 use Rattle.rules.specs.declared.call.Event.{Event}
-use Rattle.rules.specs.State.{Worker, Cursor, Checkpoint, none, walking, closed, State, no_worker, empty_logger, worker_of, logger_at, logger_of, cell_in, with_worker, with_table, with_logger, with_epoch, with_checkpoint, with_results, with_medium}
+use Rattle.rules.specs.State.{Worker, Cursor, Checkpoint, none, walking, State, no_worker, empty_logger, worker_of, logger_at, logger_of, cell_in, with_worker, with_table, with_logger, with_epoch, with_checkpoint, with_results, with_medium}
 use Rattle.rules.specs.Transactions.{Done, Read, Locked, Installed, begin_rule, read_rule, change_rule, lock_rule, validate_rule, install_rule, abandon_rule}
 use Rattle.rules.specs.Logging.{advance_rule, reserved_from, Spilled, spill_rule, lasting, persistent, new_mark, same_mark, in_force, release_rule, void_rule, without}
 use Rattle.rules.specs.Checkpoints.{fresh_cursor, start_rule, Stepped, step_rule, close_rule}
 
 -- open: every worker has one logger, and the medium is fresh
 abbrev pub ones_in : List ℕ → ℕ
-ones_in [] = 0
-ones_in (m ∷ ms) = count_ones m + ones_in ms
+ones_in ms = sum_by count_ones ms
 
 abbrev pub joined_masks : List ℕ → ℕ
 joined_masks [] = 0
@@ -29,8 +29,7 @@ abbrev pub masks_fit : List ℕ → Bool
 masks_fit ms = ones_in ms == 4 && joined_masks ms == 15
 
 abbrev pub all_empty : List FileModel → Bool
-all_empty [] = true
-all_empty (f ∷ fs) = (f.first == 0 && count_of f == 0) && all_empty fs
+all_empty fs = list_all (λ f. f.first == 0 && count_of f == 0) fs
 
 abbrev pub is_fresh : MediumModel → Bool
 is_fresh m = all_empty m.files && same_mark m.mark zeros
@@ -41,16 +40,20 @@ opened ms m = record { epoch = 1; table = []; workers = replicate 4 no_worker; l
 unfoldable pub open_rule : List ℕ → MediumModel → Result State Refusal
 open_rule ms m = cond (not (masks_fit ms)) (Err MasksUnfit) (cond (not (is_fresh m)) (Err MediumNotFresh) (Ok (opened ms m)))
 
+-- a reply, or a refusal
+abbrev pub Answer : Type 0
+Answer = Result Reply Refusal
+
 pub record Outcome : Type 0 where
   pub state : State
   pub answer : Answer
 
 -- a refused call leaves the state as it was
 abbrev pub refused : State → Refusal → Outcome
-refused s e = record { state = s; answer = No e }
+refused s e = record { state = s; answer = Err e }
 
 abbrev pub answered : State → ℕ → Outcome
-answered s n = record { state = s; answer = Number n }
+answered s n = record { state = s; answer = Ok (Number n) }
 
 -- workers, loggers and parts are numbered from 0 to 3, before all else
 abbrev pub up_to_3 : State → ℕ → Outcome → Outcome
@@ -61,7 +64,7 @@ begin_call s w (Ok x) = answered (with_worker s w x) 0
 begin_call s w (Err e) = refused s e
 
 abbrev pub read_call : State → ℕ → Result Read Refusal → Outcome
-read_call s w (Ok r) = record { state = with_worker s w r.new; answer = Seen r.cell }
+read_call s w (Ok r) = record { state = with_worker s w r.new; answer = Ok (Seen r.cell) }
 read_call s w (Err e) = refused s e
 
 abbrev pub change_call : State → ℕ → Result (Done Worker) Refusal → Outcome
@@ -127,9 +130,8 @@ step_call s p noted cursors (Ok t) = answered (with_medium (with_checkpoint s (w
 step_call s p noted cursors (Err e) = refused s e
 
 abbrev pub step_in : State → ℕ → Checkpoint → Outcome
-step_in s p none = refused s NoCheckpointWalking
 step_in s p (walking noted cursors) = step_call s p noted cursors (step_rule p (slice_index_or cursors p fresh_cursor) s.table s.medium)
-step_in s p (closed noted ends high) = refused s NoCheckpointWalking
+step_in s p _ = refused s NoCheckpointWalking
 
 -- retire drops what lies in front of the marked start
 abbrev pub retire_call : State → ℕ → Result ℕ Refusal → Outcome
@@ -155,7 +157,7 @@ rule s call.CheckpointStart = checkpoint_call s 0 (start_rule s.medium s.checkpo
 rule s (call.CheckpointStep p) = up_to_3 s p (step_in s p s.checkpoint)
 rule s call.CheckpointClose = checkpoint_call s s.epoch (close_rule s.epoch s.medium s.checkpoint)
 rule s (call.Retire f) = retire_call s f (retire_answer s.medium f (slice_index s.medium.mark.starts f))
-rule s (call.Value k) = record { state = s; answer = Seen (cell_in (look k s.table)) }
+rule s (call.Value k) = record { state = s; answer = Ok (Seen (cell_in (look k s.table))) }
 
 -- a list of calls, played from a state: what it leaves, and what was answered
 unfoldable pub played : State → List Call → State

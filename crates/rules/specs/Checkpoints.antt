@@ -1,5 +1,6 @@
 -- The fuzzy checkpoint: a walk over the table while commits go on.
-use Rattle.std.specs.Prelude.{ℕ, ◌+◌, ◌%◌, Bool, true, false, cond, not, ◌&&◌, List, [], ◌∷◌, length, drop, Some, None, Ok, Err, Option, Result, ◌==◌}
+use Rattle.std.specs.Prelude.{ℕ, ◌+◌, ◌%◌, Bool, true, false, cond, not, ◌&&◌, List, [], ◌∷◌, length, map, filter, drop, Some, None, Ok, Err, Option, Result, ◌==◌}
+use Rattle.std.specs.List.{list_all}
 use Rattle.base.specs.declared.key.Key.{Key}
 use Rattle.base.specs.declared.refusal.Refusal.{Refusal}
 use Rattle.base.specs.declared.refusal.Refusal.TheVariants.{CheckpointUnderWay, NoCheckpointWalking, CheckpointUnfinished}
@@ -14,8 +15,7 @@ use Rattle.table.specs.declared.record.Record.{Record}
 use Rattle.rules.specs.State.{Cursor, Checkpoint, none, walking, closed}
 
 abbrev pub counts : List FileModel → List ℕ
-counts [] = []
-counts (f ∷ fs) = count_of f ∷ counts fs
+counts fs = map count_of fs
 
 abbrev pub fresh_cursor : Cursor
 fresh_cursor = record { reached = None; done = false }
@@ -26,8 +26,7 @@ started noted = walking noted (fresh_cursor ∷ (fresh_cursor ∷ (fresh_cursor 
 -- start is refused while a checkpoint is walking, or closed and not in force
 unfoldable pub start_rule : MediumModel → Checkpoint → Result Checkpoint Refusal
 start_rule m none = Ok (started (counts m.files))
-start_rule m (walking noted cursors) = Err CheckpointUnderWay
-start_rule m (closed noted ends high) = Err CheckpointUnderWay
+start_rule m _ = Err CheckpointUnderWay
 
 -- a record belongs to the part of its last code byte, modulo 4
 abbrev pub part_of : Key → ℕ
@@ -38,8 +37,7 @@ abbrev pub is_next : ℕ → Option Key → Record → Bool
 is_next p reached r = part_of r.key == p && (behind reached r.key && not (r.tid == 0))
 
 abbrev pub next_records : ℕ → Option Key → List Record → List Record
-next_records p reached [] = []
-next_records p reached (r ∷ rs) = cond (is_next p reached r) (r ∷ next_records p reached rs) (next_records p reached rs)
+next_records p reached rs = filter (is_next p reached) rs
 
 abbrev pub row_of : Record → Entry
 row_of r = elim r.value [ Some v ↦ Row r.tid r.key v | None ↦ Gone r.tid r.key ]
@@ -50,8 +48,7 @@ that_fit used [] = []
 that_fit used (r ∷ rs) = cond (fits room used (size_of (row_of r))) (r ∷ that_fit (used + size_of (row_of r)) rs) []
 
 abbrev pub rows : List Record → List Entry
-rows [] = []
-rows (r ∷ rs) = row_of r ∷ rows rs
+rows rs = map row_of rs
 
 abbrev pub last_key : Option Key → List Record → Option Key
 last_key k [] = k
@@ -68,7 +65,7 @@ stepped_with p c m rs (Err e) = Err e
 
 -- with none left the part is done, and nothing is appended
 abbrev pub stepped : ℕ → Cursor → MediumModel → List Record → Result Stepped Refusal
-stepped p c m [] = Ok (record { new = record { reached = c.reached; done = true }; medium = m; number = 0 })
+stepped p c m [] = Ok (record { new = record c { done = true }; medium = m; number = 0 })
 stepped p c m (r ∷ rs) = stepped_with p c m (r ∷ rs) (append_answer m (4 + p))
 
 unfoldable pub step_rule : ℕ → Cursor → List Record → MediumModel → Result Stepped Refusal
@@ -78,15 +75,12 @@ step_rule p c t m =
 
 -- close
 abbrev pub all_done : List Cursor → Bool
-all_done [] = true
-all_done (c ∷ cs) = c.done && all_done cs
+all_done cs = list_all (λ c. c.done) cs
 
 abbrev pub all_synced : List FileModel → Bool
-all_synced [] = true
-all_synced (f ∷ fs) = f.synced == count_of f && all_synced fs
+all_synced fs = list_all (λ f. f.synced == count_of f) fs
 
 unfoldable pub close_rule : ℕ → MediumModel → Checkpoint → Result Checkpoint Refusal
-close_rule e m none = Err NoCheckpointWalking
 close_rule e m (walking noted cursors) =
     cond (all_done cursors && all_synced (drop 4 m.files)) (Ok (closed noted (drop 4 (counts m.files)) e)) (Err CheckpointUnfinished)
-close_rule e m (closed noted ends high) = Err NoCheckpointWalking
+close_rule e m _ = Err NoCheckpointWalking

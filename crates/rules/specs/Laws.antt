@@ -1,25 +1,24 @@
 -- Laws over all rules.
-use Rattle.std.specs.Prelude.{◌≡◌, ℕ, ◌<◌, ◌≤◌, Bool, true, false, List, Some, None, Option}
+use Rattle.std.specs.Prelude.{◌≡◌, ℕ, ◌<◌, ◌≤◌, Bool, true, false, List, All, Some, None, Err, Option}
 use Rattle.base.specs.declared.refusal.Refusal.{Refusal}
 use Rattle.medium.specs.Model.{MediumModel}
 use Rattle.medium.specs.Steps.{append_after, sync_after, retire_after, set_mark_after}
 use Rattle.medium.specs.declared.mark.Mark.{Mark}
 use Rattle.rules.specs.declared.call.Call.{Call}
 use Rattle.rules.specs.declared.call.Call.TheVariants as call
-use Rattle.rules.specs.declared.call.Answer.TheVariants.{No}
-use Rattle.rules.specs.State.{State}
+use Rattle.rules.specs.State.{Worker, Logger, State, tid_in}
 use Rattle.medium.specs.Sound.{Fresh}
-use Rattle.std.specs.List.{AllByRecursion}
 use Rattle.rules.specs.Logging.{held_epoch}
 use Rattle.rules.specs.Calls.{rule, played, history, opened}
 use Rattle.rules.specs.Serial.{Story, story_from}
 use Rattle.rules.specs.Recovery.{Version, offered}
 use Rattle.table.specs.Order.{sorted}
+use Rattle.table.specs.Records.{look}
 use Rattle.table.specs.declared.record.Record.{Record}
 
 -- a refused call leaves everything as it was
 abbrev pub RefusalsChangeNothing : Type 0
-RefusalsChangeNothing = (s : State) (c : Call) (e : Refusal) → (rule s c).answer ≡ No e → (rule s c).state ≡ s
+RefusalsChangeNothing = (s : State) (c : Call) (e : Refusal) → (rule s c).answer ≡ Err e → (rule s c).state ≡ s
 
 -- a medium after one call of its own, or none
 pub data Touched (m n : MediumModel) : Type 0 where
@@ -41,16 +40,24 @@ Compatible u v = u.key ≡ v.key → u.tid ≡ v.tid → u.cell ≡ v.cell
 abbrev pub EitherOrder : Type 0
 EitherOrder = (u v : Version) (t : List Record) → sorted t ≡ true → Compatible u v → offered u (offered v t) ≡ offered v (offered u t)
 
+-- a version whose TID is not larger than that of its key's record changes nothing
+abbrev pub OnlyLargerReplaces : Type 0
+OnlyLargerReplaces = (v : Version) (t : List Record) → v.tid ≤ tid_in (look v.key t) → offered v t ≡ t
+
 -- behind an epoch, or nothing at all
 abbrev pub Above : ℕ → Option ℕ → Type 0
 Above d None = Unit {0}
 Above d (Some n) = d < n
 
--- the marked epoch lies before everything that is still under way: the current epoch, what workers hold, what is not yet synced
-pub record Pending (s : State) : Type 0 where
-  pub current : s.medium.mark.epoch < s.epoch
-  pub workers : AllByRecursion (λ x. Above s.medium.mark.epoch (held_epoch x)) s.workers
-  pub loggers : AllByRecursion (λ g. Above s.medium.mark.epoch g.held × Above s.medium.mark.epoch g.spilled) s.loggers
+-- an epoch that lies before everything that is still under way: the current epoch, what workers hold, what is not yet synced
+pub record LiesBefore (d e : ℕ) (ws : List Worker) (gs : List Logger) : Type 0 where
+  pub current : d < e
+  pub workers : All (λ x. Above d (held_epoch x)) ws
+  pub loggers : All (λ g. Above d g.held × Above d g.spilled) gs
+
+-- the marked epoch does
+abbrev pub Pending : State → Type 0
+Pending s = LiesBefore s.medium.mark.epoch s.epoch s.workers s.loggers
 
 -- from a state whose marked epoch lies before all that is under way, as a fresh one's does, the marked epoch never falls
 abbrev pub EpochNeverFalls : Type 0
@@ -61,25 +68,8 @@ abbrev pub OpensSo : Type 0
 OpensSo = (masks : List ℕ) (m : MediumModel) → Fresh m → Pending (opened masks m)
 
 abbrev pub is_persist : Call → Bool
-is_persist (call.Begin w) = false
-is_persist (call.Read w k) = false
-is_persist (call.Write w k v) = false
-is_persist (call.Erase w k) = false
-is_persist (call.Lock w) = false
-is_persist (call.Validate w) = false
-is_persist (call.Install w) = false
-is_persist (call.Abandon w) = false
-is_persist call.Advance = false
-is_persist (call.Spill l) = false
-is_persist (call.Sync f) = false
 is_persist call.Persist = true
-is_persist (call.Release r) = false
-is_persist (call.Void r) = false
-is_persist call.CheckpointStart = false
-is_persist (call.CheckpointStep p) = false
-is_persist call.CheckpointClose = false
-is_persist (call.Retire f) = false
-is_persist (call.Value k) = false
+is_persist _ = false
 
 -- the last persist's answer is the marked epoch
 abbrev pub MarkedAsAnswered : Type 0

@@ -1,5 +1,6 @@
 -- Epochs, logs and results: the rules, each over what it touches.
-use Rattle.std.specs.Prelude.{ℕ, ◌+◌, ◌-◌, min, Bool, true, false, cond, ◌&&◌, ◌||◌, List, [], ◌∷◌, ◌++◌, length, take, drop, Some, None, Ok, Err, Option, Result, ◌==◌, nat_le, nat_lt}
+use Rattle.std.specs.Prelude.{ℕ, ◌+◌, ◌-◌, min, Bool, true, false, cond, ◌&&◌, List, [], ◌∷◌, ◌++◌, length, map, take, drop, Some, None, Ok, Err, Option, Result, ◌==◌, nat_le, nat_lt}
+use Rattle.std.specs.List.{list_any}
 use Rattle.base.specs.Limits.{last_epoch}
 use Rattle.base.specs.declared.refusal.Refusal.{Refusal}
 use Rattle.base.specs.declared.refusal.Refusal.TheVariants.{AdvanceHeldBack, LastEpoch, NothingToSpill, NotPersistent, WrongTicket}
@@ -7,12 +8,12 @@ use Rattle.block.specs.Format.{sealed}
 use Rattle.medium.specs.Model.{FileModel, MediumModel}
 use Rattle.medium.specs.Steps.{append_answer, append_after}
 use Rattle.medium.specs.declared.mark.Mark.{Mark}
-use Rattle.rules.specs.State.{idle, reading, locked, validated, Worker, Logger, Checkpoint, none, walking, closed, Held, least}
+use Rattle.rules.specs.State.{locked, validated, Worker, Logger, Checkpoint, closed, Held, least, least_of}
 use Rattle.rules.specs.Transactions.{needs}
 
 -- a worker that is locked or validated holds its lock epoch
 abbrev pub held_epoch : Worker → Option ℕ
-held_epoch x = elim x.phase [ idle ↦ None | reading ↦ None | locked ↦ Some x.lock_epoch | validated ↦ Some x.lock_epoch ]
+held_epoch x = elim x.phase [ locked ↦ Some x.lock_epoch | validated ↦ Some x.lock_epoch | _ ↦ None ]
 
 abbrev pub is_below : ℕ → Option ℕ → Bool
 is_below e None = false
@@ -20,15 +21,14 @@ is_below e (Some n) = nat_lt n e
 
 -- advance
 abbrev pub any_older : ℕ → List Worker → Bool
-any_older e [] = false
-any_older e (x ∷ xs) = is_below e (held_epoch x) || any_older e xs
+any_older e ws = list_any (λ x. is_below e (held_epoch x)) ws
 
 unfoldable pub advance_rule : ℕ → List Worker → Result ℕ Refusal
 advance_rule e ws = cond (any_older e ws) (Err AdvanceHeldBack) (cond (nat_le last_epoch e) (Err LastEpoch) (Ok (e + 1)))
 
 -- the bytes that validated workers of a logger have reserved; a worker's logger comes from a function
 abbrev pub reserved_by : Worker → ℕ
-reserved_by x = elim x.phase [ idle ↦ 0 | reading ↦ 0 | locked ↦ 0 | validated ↦ needs x ]
+reserved_by x = elim x.phase [ validated ↦ needs x | _ ↦ 0 ]
 
 abbrev pub reserved_from : (ℕ → ℕ) → ℕ → ℕ → List Worker → ℕ
 reserved_from logger l w [] = 0
@@ -52,16 +52,14 @@ spill_rule l g m = cond (length g.bytes == 0) (Err NothingToSpill) (spilled_to l
 
 -- sync: what a log has spilled lasts from then on
 abbrev pub lasting : Logger → Logger
-lasting g = record { bytes = g.bytes; held = g.held; spilled = None }
+lasting g = record g { spilled = None }
 
 -- the persistent epoch: one less than the least of the current epoch, those held by workers, and those of writes not yet in a synced block
 abbrev pub least_of_workers : List Worker → Option ℕ
-least_of_workers [] = None
-least_of_workers (x ∷ xs) = least (held_epoch x) (least_of_workers xs)
+least_of_workers ws = least_of held_epoch ws
 
 abbrev pub least_of_loggers : List Logger → Option ℕ
-least_of_loggers [] = None
-least_of_loggers (g ∷ gs) = least (least g.held g.spilled) (least_of_loggers gs)
+least_of_loggers gs = least_of (λ g. least g.held g.spilled) gs
 
 abbrev pub least_or : ℕ → Option ℕ → ℕ
 least_or e None = e
@@ -72,8 +70,7 @@ persistent e ws gs = least_or e (least (least_of_workers ws) (least_of_loggers g
 
 -- the mark that a persist sets
 abbrev pub synced_counts : List FileModel → List ℕ
-synced_counts [] = []
-synced_counts (f ∷ fs) = f.synced ∷ synced_counts fs
+synced_counts fs = map (λ f. f.synced) fs
 
 -- log ends are what is synced; starts and part ends stay
 abbrev pub plain_mark : ℕ → MediumModel → Mark
@@ -84,20 +81,17 @@ abbrev pub forced_mark : ℕ → MediumModel → List ℕ → List ℕ → Mark
 forced_mark d m noted ends = record { epoch = d; starts = noted; ends = take 4 (synced_counts m.files) ++ ends }
 
 abbrev pub in_force : ℕ → Checkpoint → Bool
-in_force d none = false
-in_force d (walking noted cursors) = false
 in_force d (closed noted ends high) = nat_le high d
+in_force d _ = false
 
 abbrev pub new_mark : ℕ → MediumModel → Checkpoint → Mark
-new_mark d m none = plain_mark d m
-new_mark d m (walking noted cursors) = plain_mark d m
 new_mark d m (closed noted ends high) = cond (nat_le high d) (forced_mark d m noted ends) (plain_mark d m)
+new_mark d m _ = plain_mark d m
 
 abbrev pub same_numbers : List ℕ → List ℕ → Bool
 same_numbers [] [] = true
-same_numbers [] (y ∷ ys) = false
-same_numbers (x ∷ xs) [] = false
 same_numbers (x ∷ xs) (y ∷ ys) = x == y && same_numbers xs ys
+same_numbers _ _ = false
 
 abbrev pub same_mark : Mark → Mark → Bool
 same_mark j k = j.epoch == k.epoch && (same_numbers j.starts k.starts && same_numbers j.ends k.ends)

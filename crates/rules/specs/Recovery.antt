@@ -33,10 +33,8 @@ abbrev pub bad_file : ℕ → ℕ → FileModel → Bool
 bad_file start end f = nat_lt end start || (nat_lt start f.first || nat_lt (count_of f) end)
 
 abbrev pub first_bad : ℕ → List FileModel → List ℕ → List ℕ → Option ℕ
-first_bad n [] ss es = None
-first_bad n (f ∷ fs) [] es = None
-first_bad n (f ∷ fs) (s ∷ ss) [] = None
 first_bad n (f ∷ fs) (s ∷ ss) (e ∷ es) = cond (bad_file s e f) (Some n) (first_bad (n + 1) fs ss es)
+first_bad n _ _ _ = None
 
 abbrev pub started_at : Mark → Option ℕ → Result Recovery ReplayFault
 started_at k (Some n) = Err (replay_fault MarkUnsound n 0 0 k.epoch)
@@ -62,15 +60,11 @@ pub data Scan : Type 0 where
 
 abbrev pub scan_after : ℕ → Scan → Entry → Scan
 scan_after marked s (Txn tid) = cond (nat_le (epoch_of tid) marked) (applying tid) skipping
-scan_after marked s (Put key value) = s
-scan_after marked s (Del key) = s
-scan_after marked s (Row tid key value) = s
-scan_after marked s (Gone tid key) = s
+scan_after marked s _ = s
 
 abbrev pub change_at : Scan → Key → Cell → Option Version
-change_at no_txn k c = None
 change_at (applying tid) k c = Some (record { key = k; tid = tid; cell = c })
-change_at skipping k c = None
+change_at _ k c = None
 
 -- the version that a command gives, if it gives one
 abbrev pub version_of : Scan → Entry → Option Version
@@ -101,7 +95,7 @@ pub record Replayed : Type 0 where
   pub number : ℕ
 
 abbrev pub with_block : Recovery → ℕ → ℕ → Result (List Record) ReplayFault → Result Replayed ReplayFault
-with_block r f n (Ok t) = Ok (record { new = record { marked = r.marked; next = slice_set r.next f (n + 1); ends = r.ends; table = t }; number = n })
+with_block r f n (Ok t) = Ok (record { new = record r { next = slice_set r.next f (n + 1); table = t }; number = n })
 with_block r f n (Err e) = Err e
 
 abbrev pub taken_from : Recovery → ℕ → ℕ → Result (List Entry) BlockFault → Result Replayed ReplayFault
@@ -127,9 +121,8 @@ replay_rule m r f =
     (Err (replay_fault NoBlockLeft f 0 0 0))
 
 abbrev pub none_left : List ℕ → List ℕ → Bool
-none_left [] es = true
-none_left (n ∷ ns) [] = true
 none_left (n ∷ ns) (e ∷ es) = nat_le e n && none_left ns es
+none_left _ _ = true
 
 unfoldable pub finish_rule : Recovery → Result (List Record) Refusal
 finish_rule r = cond (none_left r.next r.ends) (Ok r.table) (Err BlocksLeft)

@@ -1,13 +1,13 @@
 -- The serial run behind a history: made from calls, arguments and answers alone.
-use Rattle.std.specs.Prelude.{◌≡◌, ℕ, Bool, false, cond, List, [], ◌∷◌, ◌++◌, Some, None, Option, ◌==◌, nat_eq, nat_le}
+use Rattle.std.specs.Prelude.{◌≡◌, ℕ, Bool, false, cond, List, [], ◌∷◌, ◌++◌, filter, Some, None, Ok, Err, Option, ◌==◌, nat_eq, nat_le}
 use Rattle.base.specs.declared.key.Key.{Key}
 use Rattle.table.specs.Order.{same_key}
 use Rattle.rules.specs.declared.call.Call.{Call}
 use Rattle.rules.specs.declared.call.Call.TheVariants as call
-use Rattle.rules.specs.declared.call.Answer.{Answer}
-use Rattle.rules.specs.declared.call.Answer.TheVariants.{Number, Cell as CellAnswer, No}
+use Rattle.rules.specs.declared.call.Reply.TheVariants.{Number, Cell as CellAnswer}
 use Rattle.rules.specs.declared.call.Event.{Event}
 use Rattle.rules.specs.State.{Cell}
+use Rattle.rules.specs.Calls.{Answer}
 use Rattle.rules.specs.Recovery.{Seen}
 
 -- what a transaction did: it saw a key's cell, or it set one
@@ -48,10 +48,10 @@ pub record Story : Type 0 where
   pub persistent : ℕ
 
 abbrev pub with_ops : Story → ℕ → List Op → Story
-with_ops s w os = record { ops = λ v. cond (v == w) os (s.ops v); line = s.line; persistent = s.persistent }
+with_ops s w os = record s { ops = λ v. cond (v == w) os (s.ops v) }
 
 abbrev pub with_line : Story → List Txn → Story
-with_line s l = record { ops = s.ops; line = l; persistent = s.persistent }
+with_line s l = record s { line = l }
 
 abbrev pub did : Story → ℕ → Op → Story
 did s w o = with_ops s w (s.ops w ++ (o ∷ []))
@@ -62,7 +62,7 @@ is_open w t = elim t.result [ Some n ↦ false | None ↦ nat_eq t.worker w ]
 
 abbrev pub ended : ℕ → ℕ → List Txn → List Txn
 ended w n [] = []
-ended w n (t ∷ ts) = cond (is_open w t) (record { worker = t.worker; ops = t.ops; epoch = t.epoch; result = Some n } ∷ ts) (t ∷ ended w n ts)
+ended w n (t ∷ ts) = cond (is_open w t) (record t { result = Some n } ∷ ts) (t ∷ ended w n ts)
 
 abbrev pub dropped : ℕ → List Txn → List Txn
 dropped w [] = []
@@ -71,50 +71,22 @@ dropped w (t ∷ ts) = cond (is_open w t) ts (t ∷ dropped w ts)
 -- an answered call; one that is not named here adds nothing
 abbrev pub told_number : Story → Call → ℕ → Story
 told_number s (call.Begin w) n = with_ops s w []
-told_number s (call.Read w k) n = s
 told_number s (call.Write w k v) n = did s w (set_to k (Some v))
 told_number s (call.Erase w k) n = did s w (set_to k None)
 told_number s (call.Lock w) e = with_line s (s.line ++ (record { worker = w; ops = s.ops w; epoch = e; result = None } ∷ []))
-told_number s (call.Validate w) n = s
 told_number s (call.Install w) n = with_line s (ended w n s.line)
 told_number s (call.Abandon w) n = with_line s (dropped w s.line)
-told_number s call.Advance n = s
-told_number s (call.Spill l) n = s
-told_number s (call.Sync f) n = s
-told_number s call.Persist d = record { ops = s.ops; line = s.line; persistent = d }
-told_number s (call.Release r) n = s
-told_number s (call.Void r) n = s
-told_number s call.CheckpointStart n = s
-told_number s (call.CheckpointStep p) n = s
-told_number s call.CheckpointClose n = s
-told_number s (call.Retire f) n = s
-told_number s (call.Value k) n = s
+told_number s call.Persist d = record s { persistent = d }
+told_number s _ n = s
 
 abbrev pub told_cell : Story → Call → Cell → Story
-told_cell s (call.Begin w) c = s
 told_cell s (call.Read w k) c = did s w (saw k c)
-told_cell s (call.Write w k v) c = s
-told_cell s (call.Erase w k) c = s
-told_cell s (call.Lock w) c = s
-told_cell s (call.Validate w) c = s
-told_cell s (call.Install w) c = s
-told_cell s (call.Abandon w) c = s
-told_cell s call.Advance c = s
-told_cell s (call.Spill l) c = s
-told_cell s (call.Sync f) c = s
-told_cell s call.Persist c = s
-told_cell s (call.Release r) c = s
-told_cell s (call.Void r) c = s
-told_cell s call.CheckpointStart c = s
-told_cell s (call.CheckpointStep p) c = s
-told_cell s call.CheckpointClose c = s
-told_cell s (call.Retire f) c = s
-told_cell s (call.Value k) c = s
+told_cell s _ c = s
 
 abbrev pub told_by : Story → Call → Answer → Story
-told_by s c (Number n) = told_number s c n
-told_by s c (CellAnswer x) = told_cell s c x
-told_by s c (No e) = s
+told_by s c (Ok (Number n)) = told_number s c n
+told_by s c (Ok (CellAnswer x)) = told_cell s c x
+told_by s c (Err e) = s
 
 abbrev pub told : Story → Event → Story
 told s e = told_by s e.call e.answer
@@ -131,8 +103,7 @@ in_run d t = elim t.result [ Some n ↦ nat_le t.epoch d | None ↦ false ]
 
 -- the installed transactions with a lock epoch up to d, in the order of their locks
 unfoldable pub serial : ℕ → List Txn → List Txn
-serial d [] = []
-serial d (t ∷ ts) = cond (in_run d t) (t ∷ serial d ts) (serial d ts)
+serial d ts = filter (in_run d) ts
 
 unfoldable pub after_run : Seen → List Txn → Seen
 after_run v [] = v

@@ -1,5 +1,5 @@
 -- Small nights that the rules must tell rightly.
-use Rattle.std.specs.Prelude.{◌≡◌, ℕ, List, [], ◌∷◌, ◌++◌, replicate, pos, Some, None, Ok, Err, Option, Result, slice_index_or}
+use Rattle.std.specs.Prelude.{◌≡◌, ℕ, List, [], ◌∷◌, ◌++◌, map, replicate, pos, Some, None, Ok, Err, Option, Result, slice_index_or}
 use Rattle.base.specs.Faults.{ReplayFault}
 use Rattle.base.specs.declared.key.Key.{Key}
 use Rattle.base.specs.declared.refusal.Refusal.{Refusal}
@@ -10,11 +10,10 @@ use Rattle.medium.specs.Sound.{fresh_of}
 use Rattle.table.specs.declared.record.Record.{Record}
 use Rattle.rules.specs.declared.call.Call.{Call}
 use Rattle.rules.specs.declared.call.Call.TheVariants.{Begin, Read, Write, Erase, Lock, Validate, Install, Advance, Spill, Sync, Persist, Release, CheckpointStart, CheckpointStep, CheckpointClose}
-use Rattle.rules.specs.declared.call.Answer.{Answer}
-use Rattle.rules.specs.declared.call.Answer.TheVariants.{Number, Cell as CellAnswer, No}
+use Rattle.rules.specs.declared.call.Reply.TheVariants.{Number, Cell as CellAnswer}
 use Rattle.rules.specs.declared.call.Event.{Event}
 use Rattle.rules.specs.State.{Cell, State}
-use Rattle.rules.specs.Calls.{opened, played, history}
+use Rattle.rules.specs.Calls.{Answer, opened, played, history}
 use Rattle.rules.specs.Nights.{replays}
 use Rattle.rules.specs.Recovery.{Recovery, start_recovery, finish_rule, seen}
 use Rattle.rules.specs.Serial.{story_from, before_all, serial, after_run, nothing}
@@ -28,11 +27,10 @@ key n = record { kind = 0; code = n }
 
 -- what the calls answered, one after the other
 abbrev pub answers : List Event → List Answer
-answers [] = []
-answers (e ∷ es) = e.answer ∷ answers es
+answers es = map (λ e. e.answer) es
 
 abbrev pub answer_at : ℕ → List Call → Answer
-answer_at n cs = slice_index_or (answers (history evening cs)) n (Number 0)
+answer_at n cs = slice_index_or (answers (history evening cs)) n (Ok (Number 0))
 
 -- a cut that loses all that is unsynced
 abbrev pub cut_hard : List Call → MediumModel
@@ -77,8 +75,8 @@ abbrev pub settled : List Call
 settled = writes 0 7 900 ++ (Advance ∷ Spill 0 ∷ Sync 0 ∷ Persist ∷ Release 0 ∷ [])
 
 pub record Survives : Type 0 where
-  pub persisted : answer_at 8 settled ≡ Number 1
-  pub released : answer_at 9 settled ≡ Number 0
+  pub persisted : answer_at 8 settled ≡ Ok (Number 1)
+  pub released : answer_at 9 settled ≡ Ok (Number 0)
   pub there : found settled (key 7) ≡ Some (Some (pos 900))
   pub serial : ran settled (key 7) ≡ Some (pos 900)
 
@@ -87,8 +85,8 @@ abbrev pub unsynced : List Call
 unsynced = writes 0 7 900 ++ (Advance ∷ Spill 0 ∷ Persist ∷ Release 0 ∷ [])
 
 pub record IsLost : Type 0 where
-  pub persisted : answer_at 7 unsynced ≡ Number 0
-  pub withheld : answer_at 8 unsynced ≡ No NotPersistent
+  pub persisted : answer_at 7 unsynced ≡ Ok (Number 0)
+  pub withheld : answer_at 8 unsynced ≡ Err NotPersistent
   pub gone : found unsynced (key 7) ≡ Some None
   pub serial : ran unsynced (key 7) ≡ None
 
@@ -111,8 +109,8 @@ crossed =
     ++ (Validate 1 ∷ Install 1 ∷ Validate 0 ∷ Install 0 ∷ Advance ∷ Spill 0 ∷ Sync 0 ∷ Spill 1 ∷ Sync 1 ∷ Persist ∷ [])
 
 pub record LockOrder : Type 0 where
-  pub second : answer_at 16 crossed ≡ Number 65536
-  pub first : answer_at 18 crossed ≡ Number 65538
+  pub second : answer_at 16 crossed ≡ Ok (Number 65536)
+  pub first : answer_at 18 crossed ≡ Ok (Number 65538)
   pub one : found crossed (key 2) ≡ Some (Some (pos 20))
   pub other : found crossed (key 3) ≡ Some (Some (pos 30))
 
@@ -122,8 +120,8 @@ held_back =
     writes 1 3 30 ++ (Begin 0 ∷ Write 0 (key 2) (pos 20) ∷ Lock 0 ∷ Advance ∷ Spill 1 ∷ Sync 1 ∷ Persist ∷ Advance ∷ [])
 
 pub record HoldsBack : Type 0 where
-  pub persisted : answer_at 11 held_back ≡ Number 0
-  pub refused : answer_at 12 held_back ≡ No AdvanceHeldBack
+  pub persisted : answer_at 11 held_back ≡ Ok (Number 0)
+  pub refused : answer_at 12 held_back ≡ Err AdvanceHeldBack
   pub nothing_yet : found held_back (key 3) ≡ Some None
 
 -- a deleted key whose older write is still in the log: the checkpoint's row keeps it from coming back
@@ -133,8 +131,8 @@ deleted =
     ++ walked ++ closing ++ (Advance ∷ Persist ∷ [])
 
 pub record StaysDeleted : Type 0 where
-  pub newer : answer_at 8 deleted ≡ Number 65537
-  pub in_force : answer_at 29 deleted ≡ Number 1
+  pub newer : answer_at 8 deleted ≡ Ok (Number 65537)
+  pub in_force : answer_at 29 deleted ≡ Ok (Number 1)
   pub absent : found deleted (key 8) ≡ Some None
   pub serial : ran deleted (key 8) ≡ None
 
@@ -143,9 +141,9 @@ abbrev pub looked : List Call
 looked = Begin 2 ∷ Read 2 (key 7) ∷ Lock 2 ∷ Validate 2 ∷ Install 2 ∷ Advance ∷ Persist ∷ Release 0 ∷ []
 
 pub record ReadOnly : Type 0 where
-  pub absent : answer_at 1 looked ≡ CellAnswer None
-  pub tid : answer_at 3 looked ≡ Number 65536
-  pub released : answer_at 7 looked ≡ Number 0
+  pub absent : answer_at 1 looked ≡ Ok (CellAnswer None)
+  pub tid : answer_at 3 looked ≡ Ok (Number 65536)
+  pub released : answer_at 7 looked ≡ Ok (Number 0)
 
 pub record SmallNights : Type 0 where
   pub a_commit_survives : Survives

@@ -121,24 +121,29 @@ least None o = o
 least (Some m) None = Some m
 least (Some m) (Some n) = Some (min m n)
 
+-- the least epoch that an item of a list has, if one has any
+abbrev pub least_of : {A : Type 0} → (A → Option ℕ) → List A → Option ℕ
+least_of epoch [] = None
+least_of epoch (x ∷ xs) = least (epoch x) (least_of epoch xs)
+
 -- a state with one part changed
 abbrev pub with_worker : State → ℕ → Worker → State
-with_worker s w x = record { epoch = s.epoch; table = s.table; workers = slice_set s.workers w x; loggers = s.loggers; masks = s.masks; checkpoint = s.checkpoint; results = s.results; installs = s.installs; medium = s.medium }
+with_worker s w x = record s { workers = slice_set s.workers w x }
 
 abbrev pub with_table : State → List Record → State
-with_table s t = record { epoch = s.epoch; table = t; workers = s.workers; loggers = s.loggers; masks = s.masks; checkpoint = s.checkpoint; results = s.results; installs = s.installs; medium = s.medium }
+with_table s t = record s { table = t }
 
 abbrev pub with_logger : State → ℕ → Logger → State
-with_logger s l x = record { epoch = s.epoch; table = s.table; workers = s.workers; loggers = slice_set s.loggers l x; masks = s.masks; checkpoint = s.checkpoint; results = s.results; installs = s.installs; medium = s.medium }
+with_logger s l x = record s { loggers = slice_set s.loggers l x }
 
 abbrev pub with_epoch : State → ℕ → State
-with_epoch s e = record { epoch = e; table = s.table; workers = s.workers; loggers = s.loggers; masks = s.masks; checkpoint = s.checkpoint; results = s.results; installs = s.installs; medium = s.medium }
+with_epoch s e = record s { epoch = e }
 
 abbrev pub with_checkpoint : State → Checkpoint → State
-with_checkpoint s c = record { epoch = s.epoch; table = s.table; workers = s.workers; loggers = s.loggers; masks = s.masks; checkpoint = c; results = s.results; installs = s.installs; medium = s.medium }
+with_checkpoint s c = record s { checkpoint = c }
 
 abbrev pub with_results : State → List Held → ℕ → State
-with_results s hs n = record { epoch = s.epoch; table = s.table; workers = s.workers; loggers = s.loggers; masks = s.masks; checkpoint = s.checkpoint; results = hs; installs = n; medium = s.medium }
+with_results s hs n = record s { results = hs; installs = n }
 
 abbrev pub with_medium : State → MediumModel → State
-with_medium s m = record { epoch = s.epoch; table = s.table; workers = s.workers; loggers = s.loggers; masks = s.masks; checkpoint = s.checkpoint; results = s.results; installs = s.installs; medium = m }
+with_medium s m = record s { medium = m }

@@ -1,5 +1,6 @@
 -- The rules of one transaction, each over what it touches. Refusals stand in the order in which they count.
-use Rattle.std.specs.Prelude.{ℕ, ◌+◌, ◌*◌, max, Bool, true, false, cond, not, ◌&&◌, ◌||◌, List, [], ◌∷◌, ◌++◌, length, Some, None, Ok, Err, Option, Result, is_some, ◌==◌, nat_le, nat_lt}
+use Rattle.std.specs.Prelude.{ℕ, ◌+◌, ◌*◌, max, Bool, true, false, cond, not, ◌&&◌, ◌||◌, List, [], ◌∷◌, ◌++◌, length, map, count_by, Some, None, Ok, Err, Option, Result, is_some, is_none, ◌==◌, nat_le, nat_lt}
+use Rattle.std.specs.List.{list_any}
 use Rattle.base.specs.Limits.{value_fits}
 use Rattle.base.specs.declared.key.Key.{Key}
 use Rattle.base.specs.declared.refusal.Refusal.{Refusal}
@@ -20,21 +21,10 @@ pub record Done (A : Type 0) : Type 0 where
 
 abbrev pub is_phase : Phase → Phase → Bool
 is_phase idle idle = true
-is_phase idle reading = false
-is_phase idle locked = false
-is_phase idle validated = false
-is_phase reading idle = false
 is_phase reading reading = true
-is_phase reading locked = false
-is_phase reading validated = false
-is_phase locked idle = false
-is_phase locked reading = false
 is_phase locked locked = true
-is_phase locked validated = false
-is_phase validated idle = false
-is_phase validated reading = false
-is_phase validated locked = false
 is_phase validated validated = true
+is_phase _ _ = false
 
 -- a transaction takes at most so many keys to read, and so many to write
 abbrev pub most_keys : ℕ
@@ -53,7 +43,7 @@ pub record Read : Type 0 where
   pub cell : Cell
 
 abbrev pub noting : Worker → Key → ℕ → Worker
-noting x k t = record { phase = x.phase; reads = x.reads ++ (record { key = k; tid = t } ∷ []); changes = x.changes; lock_epoch = x.lock_epoch; tid = x.tid; last = x.last }
+noting x k t = record x { reads = x.reads ++ (record { key = k; tid = t } ∷ []) }
 
 -- a key that was read before must have the same TID; a new one must not be one too many
 abbrev pub note_read : Worker → Key → ℕ → Option ℕ → Result Worker Refusal
@@ -78,10 +68,10 @@ read_rule t x k = cond (is_phase reading x.phase) (read_own x k (look k t) (chan
 -- write and erase
 abbrev pub changed : Key → Cell → List Change → List Change
 changed k c [] = record { key = k; cell = c } ∷ []
-changed k c (x ∷ xs) = cond (same_key x.key k) (record { key = x.key; cell = c } ∷ xs) (x ∷ changed k c xs)
+changed k c (x ∷ xs) = cond (same_key x.key k) (record x { cell = c } ∷ xs) (x ∷ changed k c xs)
 
 abbrev pub changing : Worker → Key → Cell → Worker
-changing x k c = record { phase = x.phase; reads = x.reads; changes = changed k c x.changes; lock_epoch = x.lock_epoch; tid = x.tid; last = x.last }
+changing x k c = record x { changes = changed k c x.changes }
 
 abbrev pub cell_fits : Cell → Bool
 cell_fits None = true
@@ -100,8 +90,7 @@ held_by_other w None = false
 held_by_other w (Some v) = not (v == w)
 
 abbrev pub any_held : ℕ → List Record → List Change → Bool
-any_held w t [] = false
-any_held w t (c ∷ cs) = held_by_other w (holder_in (look c.key t)) || any_held w t cs
+any_held w t cs = list_any (λ c. held_by_other w (holder_in (look c.key t))) cs
 
 -- the record of a key, held by a worker; a key without one gets one that is absent with TID 0
 abbrev pub held_record : ℕ → Key → Option Record → Record
@@ -112,7 +101,7 @@ lock_keys w [] t = t
 lock_keys w (c ∷ cs) t = lock_keys w cs (put (held_record w c.key (look c.key t)) t)
 
 abbrev pub locking : ℕ → Worker → Worker
-locking e x = record { phase = locked; reads = x.reads; changes = x.changes; lock_epoch = e; tid = 0; last = x.last }
+locking e x = record x { phase = locked; lock_epoch = e; tid = 0 }
 
 pub record Locked : Type 0 where
   pub new : Worker
@@ -127,8 +116,7 @@ lock_rule e w t x =
 
 -- validate
 abbrev pub any_changed : ℕ → List Record → List Note → Bool
-any_changed w t [] = false
-any_changed w t (n ∷ ns) = not (tid_in (look n.key t) == n.tid) || (held_by_other w (holder_in (look n.key t)) || any_changed w t ns)
+any_changed w t ns = list_any (λ n. not (tid_in (look n.key t) == n.tid) || held_by_other w (holder_in (look n.key t))) ns
 
 abbrev pub greatest_noted : List Note → ℕ
 greatest_noted [] = 0
@@ -147,19 +135,17 @@ unfoldable pub next_tid : ℕ → ℕ → Option ℕ
 next_tid e m = cond (nat_lt m (e * 65536)) (Some (e * 65536)) (cond (m == e * 65536 + 65535) None (Some (m + 1)))
 
 abbrev pub writes_of : List Change → ℕ
-writes_of [] = 0
-writes_of (c ∷ cs) = cond (is_some c.cell) 1 0 + writes_of cs
+writes_of cs = count_by (λ c. is_some c.cell) cs
 
 abbrev pub erases_of : List Change → ℕ
-erases_of [] = 0
-erases_of (c ∷ cs) = cond (is_some c.cell) 0 1 + erases_of cs
+erases_of cs = count_by (λ c. is_none c.cell) cs
 
 -- the command bytes that a worker's transaction needs
 abbrev pub needs : Worker → ℕ
 needs x = needed (writes_of x.changes) (erases_of x.changes)
 
 abbrev pub validating : Worker → ℕ → Worker
-validating x t = record { phase = validated; reads = x.reads; changes = x.changes; lock_epoch = x.lock_epoch; tid = t; last = x.last }
+validating x t = record x { phase = validated; tid = t }
 
 abbrev pub validate_tid : ℕ → Worker → Option ℕ → Result Worker Refusal
 validate_tid taken x None = Err SequenceUsedUp
@@ -181,8 +167,7 @@ abbrev pub command_of : Change → Entry
 command_of c = elim c.cell [ Some v ↦ Put c.key v | None ↦ Del c.key ]
 
 abbrev pub commands_of : List Change → List Entry
-commands_of [] = []
-commands_of (c ∷ cs) = command_of c ∷ commands_of cs
+commands_of cs = map command_of cs
 
 -- the commands of a transaction; one that wrote nothing has none
 abbrev pub commands : Worker → List Entry
@@ -192,7 +177,7 @@ abbrev pub ended : Worker → ℕ → Worker
 ended x last = record { phase = idle; reads = []; changes = []; lock_epoch = 0; tid = 0; last = last }
 
 abbrev pub logging : Logger → Worker → Logger
-logging l x = elim x.changes [ [] ↦ l | c ∷ cs ↦ record { bytes = l.bytes ++ content (commands x); held = least (Some x.lock_epoch) l.held; spilled = l.spilled } ]
+logging l x = elim x.changes [ [] ↦ l | c ∷ cs ↦ record l { bytes = l.bytes ++ content (commands x); held = least (Some x.lock_epoch) l.held } ]
 
 pub record Installed : Type 0 where
   pub new : Worker
@@ -208,17 +193,16 @@ install_rule t l x =
 -- abandon
 abbrev pub unlock_record : Option Record → List Record → List Record
 unlock_record None t = t
-unlock_record (Some r) t = cond (r.tid == 0) (take_out r.key t) (put (record { key = r.key; tid = r.tid; value = r.value; holder = None }) t)
+unlock_record (Some r) t = cond (r.tid == 0) (take_out r.key t) (put (record r { holder = None }) t)
 
 abbrev pub unlock_keys : List Change → List Record → List Record
 unlock_keys [] t = t
 unlock_keys (c ∷ cs) t = unlock_keys cs (unlock_record (look c.key t) t)
 
 abbrev pub abandoned : Phase → List Change → List Record → List Record
-abandoned idle cs t = t
-abandoned reading cs t = t
 abandoned locked cs t = unlock_keys cs t
 abandoned validated cs t = unlock_keys cs t
+abandoned _ cs t = t
 
 unfoldable pub abandon_rule : List Record → Worker → Result Locked Refusal
 abandon_rule t x = cond (is_phase idle x.phase) (Err WrongTicket) (Ok (record { new = ended x x.last; table = abandoned x.phase x.changes t }))

@@ -3,7 +3,8 @@ use base::key::Key;
 use base::refusal::Refusal;
 
 // One call of a store. A worker stands for the ticket that it has; a held result goes by the number that install answered.
-#[derive(Clone, Copy)]
+// Workers, loggers, files and parts are plain numbers: a call with a number that is too large is a call too, and refused.
+#[derive(Clone, Copy, PartialEq, Eq, Debug)]
 pub enum Call {
     Begin { worker: u8 },
     Read { worker: u8, key: Key },
@@ -26,16 +27,18 @@ pub enum Call {
     Value { key: Key },
 }
 
-#[derive(Clone, Copy)]
-pub enum Answer {
+// What a call that is not refused tells.
+#[derive(Clone, Copy, PartialEq, Eq, Debug)]
+pub enum Reply {
     Number(u64),
     // A value, or absence.
     Cell(Option<i64>),
-    No(Refusal),
 }
 
+pub type Answer = Result<Reply, Refusal>;
+
 // A call with its answer.
-#[derive(Clone, Copy)]
+#[derive(Clone, Copy, PartialEq, Eq, Debug)]
 pub struct Event {
     pub call: Call,
     pub answer: Answer,

@@ -1,4 +1,4 @@
-// Computed checks of the rules.
+// Computed checks of the rules, as clauses of functions that do nothing else.
 ghost use Rattle.rules.specs.Figures.{Figures};
 ghost use Rattle.rules.specs.SmallNights.{SmallNights};
 

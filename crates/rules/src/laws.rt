@@ -1,5 +1,5 @@
-// Laws over all rules.
-ghost use Rattle.rules.specs.Laws.{RefusalsChangeNothing, OneChangeAtMost, EitherOrder, EpochNeverFalls, OpensSo, MarkedAsAnswered};
+// Laws over all rules. Each is the clause of a function that does nothing else, since a clause is what a check wants proved.
+ghost use Rattle.rules.specs.Laws.{RefusalsChangeNothing, OneChangeAtMost, EitherOrder, OnlyLargerReplaces, EpochNeverFalls, OpensSo, MarkedAsAnswered};
 
 // A refused call leaves the store, its medium and its results as they were.
 pub fn refusals_change_nothing() -> bool
@@ -15,9 +15,10 @@ pub fn one_change_at_most() -> bool
     true
 }
 
-// Replayed blocks may come in any order, since any two versions may.
+// Replayed blocks may come in any order, since any two versions may, and one that is not newer changes nothing.
 pub fn versions_in_either_order() -> bool
-    ensures { EitherOrder }
+    ensures order { EitherOrder }
+    ensures larger { OnlyLargerReplaces }
 {
     true
 }
