@@ -15,9 +15,9 @@ pub fn reseal(block: [u8; 512]) -> [u8; 512]
     ensures { result ≡ resealed block }
 {
     let mut right = block;
-    let sum = fletcher16(&block[0..SUM]);
-    right[SUM] = (sum / 256) as u8;
-    right[SUM + 1] = (sum % 256) as u8;
+    let [high, low] = fletcher16(&block[0..SUM]).to_be_bytes();
+    right[SUM] = high;
+    right[SUM + 1] = low;
     right
 }
 
