@@ -26,7 +26,25 @@ impl TryFrom<u8> for File {
 }
 
 impl File {
+    ghost use Rattle.std.specs.Prelude.{map};
+    ghost use Rattle.std.specs.List.{range_with_len};
     ghost use Rattle.base.specs.Files.{index_of};
+
+    // All eight, in order.
+    pub fn all() -> [File; 8]
+        ensures { map index_of result ≡ range_with_len 0 8 }
+    {
+        [
+            File { number: 0 },
+            File { number: 1 },
+            File { number: 2 },
+            File { number: 3 },
+            File { number: 4 },
+            File { number: 5 },
+            File { number: 6 },
+            File { number: 7 },
+        ]
+    }
 
     // The file's place among the eight.
     pub fn index(self) -> usize
