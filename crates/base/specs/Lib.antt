@@ -1,6 +1,7 @@
 pub mod Bytes
 pub mod Codes
 pub mod Faults
+pub mod Files
 pub mod Groups
 pub mod Limits
 pub mod Refusals

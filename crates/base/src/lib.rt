@@ -2,6 +2,7 @@
 #![tactic(auto)]
 
 pub mod fault;
+pub mod file;
 pub mod group;
 pub mod key;
 pub mod limits;

@@ -1,14 +1,13 @@
 -- Lanes with no block mean a fresh medium.
-use Rattle.std.proofs.Common.{◌≡◌, ℕ, ◌<◌, List, [], ◌∷◌, map, length, get_or, sym, refl, ap, ◌∙◌, ⊎_elim, arith}
+use Rattle.std.proofs.Common.{◌≡◌, ℕ, ◌<◌, ◌≤◌, List, [], ◌∷◌, map, length, get_or, sym, refl, ap, ◌∙◌, subst, arith}
 use lib.ListN.{length-map}
-use Rattle.std.proofs.lemmas.List.{get_or-map, get_or_past, same_lists}
-use Rattle.std.proofs.lemmas.Bool.{cases_lt}
+use Rattle.std.proofs.lemmas.List.{get_or-map, same_lists}
 use Rattle.medium.specs.declared.mark.Mark.{Mark}
-use Rattle.medium.specs.Model.{FileModel, MediumModel, file_of}
-use Rattle.medium.specs.Sound.{zeros, fresh_file, fresh_of, Fresh}
+use Rattle.medium.specs.Model.{FileModel, file_of}
+use Rattle.medium.specs.Sound.{zeros, fresh_file, fresh_of, Fresh, SoundFile, Sound}
 use Rattle.lane.specs.declared.lane.Lane.{Lane}
 use Rattle.lane.specs.Lanes.{Sized, Unused}
-use Rattle.lane.specs.Meaning.{kept_of, file_of_lane, model_of, Long, Small}
+use Rattle.lane.specs.Meaning.{kept_of, file_of_lane, model_of}
 use Rattle.lane.proofs.Kept.{length_kept}
 
 no_items : {X : Type 0} (xs : List X) → length xs ≡ 0 → xs ≡ []
@@ -49,15 +48,17 @@ fresh_is cs all =
       mark = refl;
     }
 
-none_kept : (cs : List ℕ) (f : ℕ) → length cs ≡ 8 → (file_of (fresh_of cs) f).kept ≡ []
-none_kept cs f all =
-    ⊎_elim
-    (λ low. ap (λ (x : FileModel). x.kept) (fresh_at cs f all low))
-    (λ high. ap (λ (x : FileModel). x.kept) (get_or_past (map fresh_file cs) f _ (omega (arith, length-map cs fresh_file))))
-    (cases_lt f 8)
+capacity_fits : (ls : List Lane) (cs : List ℕ) → length ls ≡ 8 → Sized ls cs → (f : ℕ) → f < 8 → (1 ≤ get_or cs f 0) × (get_or cs f 0 ≤ 4096)
+capacity_fits [] cs eight sized f low = absurd (omega arith)
+capacity_fits (d ∷ ls) cs eight sized f low = let l = get_or (d ∷ ls) f d in (omega (arith, sized f d low, l.some), omega (arith, sized f d low, l.few))
 
-pub fresh_long : (m : MediumModel) (cs : List ℕ) → length cs ≡ 8 → m ≡ fresh_of cs → Long m
-fresh_long m cs all e f k lt = absurd (let z = ap (λ x. length (file_of x f).kept) e ∙ ap length (none_kept cs f all) in omega arith)
-
-pub fresh_small : (m : MediumModel) (cs : List ℕ) → length cs ≡ 8 → m ≡ fresh_of cs → Small m
-fresh_small m cs all e f k i = let z = ap (λ x. get_or (get_or (file_of x f).kept k []) i 0) e ∙ ap (λ xs. get_or (get_or xs k []) i 0) (none_kept cs f all) in omega arith
+pub fresh_sound : (ls : List Lane) (cs : List ℕ) → length ls ≡ 8 → length cs ≡ 8 → Sized ls cs → Sound (fresh_of cs)
+fresh_sound ls cs eight all sized =
+    record {
+      eight = length-map cs fresh_file ∙ all;
+      files = λ f low.
+          let fits = capacity_fits ls cs eight sized f low in
+          let file : SoundFile (fresh_file (get_or cs f 0)) = record { some = fits.0; few = fits.1; room = omega arith; dropped = omega arith; lasting = omega arith; most = omega arith; whole = λ k lt. absurd (omega arith) } in
+          subst SoundFile (sym (fresh_at cs f all low)) file;
+      mark = record { starts = refl; ends = refl };
+    }

@@ -1,4 +1,6 @@
-pub mod Laid
 pub mod Kept
 pub mod Calls
 pub mod Fresh
+pub mod Files
+pub mod Tails
+pub mod Cutting

@@ -1,7 +1,31 @@
 -- Eight lanes that lie one after the other.
 use Rattle.std.specs.Prelude.{◌≡◌, ℕ, ◌+◌, ◌-◌, ◌%◌, ◌<◌, ◌≤◌, Bool, ◌||◌, List, length, ◌==◌, nat_le, nat_lt, slice_index, slice_index_or}
+use Rattle.std.proofs.Common.{refl}
+use Rattle.std.proofs.lemmas.Bool.{ltb-true, leb-true}
 use Rattle.medium.specs.Model.{FileModel, count_of}
 use Rattle.lane.specs.declared.lane.Lane.{Lane}
+
+-- a lane of one slot, which stands in for one that is not there
+abbrev pub no_lane : Lane
+no_lane =
+    record {
+      base = 0;
+      capacity = 1;
+      first = 0;
+      count = 0;
+      synced = 0;
+      some = ltb-true 0 1 refl;
+      few = leb-true 1 4096 refl;
+      low = leb-true 1 32768 refl;
+      dropped = leb-true 0 0 refl;
+      lasting = leb-true 0 0 refl;
+      room = leb-true 0 1 refl;
+      most = leb-true 0 16777215 refl;
+    }
+
+-- the lane of a file
+abbrev pub lane_of : List Lane → ℕ → Lane
+lane_of ls f = slice_index_or ls f no_lane
 
 -- where a lane keeps the block of a number
 abbrev pub slot : Lane → ℕ → ℕ

@@ -1,3 +1,5 @@
 pub mod Fits
+pub mod Laned
 pub mod Lanes
 pub mod Meaning
+pub mod Steps

@@ -1,9 +1,10 @@
 // The check of capacities against memory.
-ghost use Rattle.std.specs.Prelude.{◌≡◌, ◌+◌, ◌<◌, ◌≤◌, true, false, length, MatchResult};
-ghost use Rattle.lane.specs.Fits.{plan_fits, sum};
-ghost use Rattle.lane.specs.Lanes.{Apart, Inside, Sized, Unused};
+ghost use Rattle.std.specs.Prelude.{◌≡◌, ◌+◌, ◌<◌, ◌≤◌, true, false, length, sum, OnOk, OnErr, IfOk, IfErr};
+ghost use Rattle.lane.specs.Fits.{plan_fits};
+ghost use Rattle.lane.specs.Lanes.{Inside, Sized, Unused};
 
 use crate::lane::Lane;
+use crate::lanes::Lanes;
 use base::limits::MAX_CAPACITY;
 use base::refusal::Refusal;
 
@@ -11,20 +12,24 @@ use base::refusal::Refusal;
 #[derive(Clone, Copy)]
 pub struct Plan {
     pub capacities: [u32; 8],
-    pub lanes: [Lane; 8],
+    pub lanes: Lanes,
     pub total: u32,
     ghost all: { length capacities ≡ 8 },
-    ghost eight: { length lanes ≡ 8 },
-    ghost sized: { Sized lanes capacities },
-    ghost apart: { Apart lanes },
-    ghost inside: { Inside lanes total },
+    ghost sized: { Sized lanes.all capacities },
+    ghost inside: { Inside lanes.all total },
     ghost few: { total ≤ 32768 },
-    ghost unused: { Unused lanes },
+    ghost unused: { Unused lanes.all },
 }
 
 fn empty_lane(base: u32, capacity: u32) -> Lane
-    requires { (0 < capacity) × (capacity ≤ 4096) × (base + capacity ≤ 32768) }
-    ensures { (result.base ≡ base) × (result.capacity ≡ capacity) × (result.first ≡ 0) × (result.count ≡ 0) × (result.synced ≡ 0) }
+    requires some { 0 < capacity }
+    requires few { capacity ≤ 4096 }
+    requires low { base + capacity ≤ 32768 }
+    ensures base { result.base ≡ base }
+    ensures capacity { result.capacity ≡ capacity }
+    ensures first { result.first ≡ 0 }
+    ensures count { result.count ≡ 0 }
+    ensures synced { result.synced ≡ 0 }
 {
     Lane {
         base,
@@ -37,16 +42,20 @@ fn empty_lane(base: u32, capacity: u32) -> Lane
 
 // Lays eight files out, if each capacity is 1 to 4,096 and all fit into the slots.
 pub fn plan_of(capacities: &[u32; 8], slots: usize) -> Result<Plan, Refusal>
-    ensures { MatchResult result (λ p. (plan_fits capacities.now slots ≡ true) × (p.capacities ≡ capacities.now) × (p.total ≡ sum capacities.now) × (p.total ≤ slots)) (λ e. (plan_fits capacities.now slots ≡ false) × (e ≡ Refusal.BadMemory)) }
+    ensures fits { OnOk result (plan_fits capacities.now slots ≡ true) }
+    ensures capacities { IfOk result (λ p. p.capacities ≡ capacities.now) }
+    ensures total { IfOk result (λ p. p.total ≡ sum capacities.now) }
+    ensures within { IfOk result (λ p. p.total ≤ slots) }
+    ensures unfit { OnErr result (plan_fits capacities.now slots ≡ false) }
+    ensures refusal { IfErr result (λ e. e ≡ Refusal.BadMemory) }
 {
-    let mut lanes = [empty_lane(0, 1); 8];
+    let mut all = [empty_lane(0, 1); 8];
     let mut next: u32 = 0;
-    for i in 0..8usize {
-        let capacity = capacities[i];
+    for (i, &capacity) in capacities.iter().enumerate() {
         if capacity == 0 || capacity > MAX_CAPACITY {
             return Err(Refusal::BadMemory);
         }
-        lanes[i] = empty_lane(next, capacity);
+        all[i] = empty_lane(next, capacity);
         next += capacity;
     }
     if next as usize > slots {
@@ -54,7 +63,7 @@ pub fn plan_of(capacities: &[u32; 8], slots: usize) -> Result<Plan, Refusal>
     }
     Ok(Plan {
         capacities: *capacities,
-        lanes,
+        lanes: Lanes { all },
         total: next,
     })
 }

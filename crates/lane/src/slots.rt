@@ -1,36 +1,42 @@
-// What the numbers of a lane decide.
-ghost use Rattle.std.specs.Prelude.{◌≡◌};
-ghost use Rattle.lane.specs.Lanes.{slot, lane_full, lane_lacks, lane_holds};
+// What keeps the blocks of the lanes.
+ghost use Rattle.std.specs.Prelude.{◌≡◌, ℕ, ◌-◌, false, List, slice_set};
+ghost use Rattle.base.specs.Files.{index_of};
+ghost use Rattle.lane.specs.declared.lane.Lane.{Lane};
+ghost use Rattle.lane.specs.Lanes.{lane_of, slot, lane_lacks};
+ghost use Rattle.lane.specs.Steps.{Grows, Narrows, Stays};
 
 use crate::lane::Lane;
-use base::limits::LAST_COUNT;
+use crate::lanes::Lanes;
+use base::file::File;
 
-impl Lane {
-    // The slot of a block's number.
-    pub fn slot(self, number: u32) -> usize
-        ensures { result ≡ slot self number }
-    {
-        (self.base + number % self.capacity) as usize
-    }
+// A store of blocks by their slots. Each call asks that the store serves the lanes: they lie beside it, so no type can say so.
+pub trait Slots {
+    // The block in a slot.
+    ghost cell: { Self → ℕ → List ℕ };
 
-    // Whether no block can be added.
-    pub fn is_full(self) -> bool
-        ensures { result ≡ lane_full self }
-    {
-        self.count - self.first == self.capacity || self.count == LAST_COUNT
-    }
+    // What the store keeps true while it holds the blocks of these lanes.
+    ghost serves: { Self → List Lane → Type 0 };
 
-    // Whether no block of this number is kept.
-    pub fn lacks(self, number: u32) -> bool
-        ensures { result ≡ lane_lacks self number }
-    {
-        number < self.first || number >= self.count
-    }
+    // Gives a file a lane with one number more, and stores a block in the slot of that number. That there is room the longer lane shows.
+    fn fill(&mut self, lanes: &mut Lanes, file: File, longer: Lane, block: &[u8; 512])
+        requires serves { ∥ serves self.old lanes.old.all ∥₁ }
+        requires longer { Grows (lane_of lanes.old.all (index_of file)) longer }
+        ensures lanes { lanes.new.all ≡ slice_set lanes.old.all (index_of file) longer }
+        ensures serves { ∥ serves self.new lanes.new.all ∥₁ }
+        ensures filled { cell self.new (slot longer (longer.count - 1)) ≡ block.now }
+        ensures others { Stays lanes.old.all (cell self.old) (cell self.new) };
 
-    // Whether the blocks below this number have to stay.
-    pub fn holds(self, number: u32) -> bool
-        ensures { result ≡ lane_holds self number }
-    {
-        number < self.first || number > self.synced
-    }
+    // Gives a file a lane with fewer numbers, and lets go of the blocks that it no longer has.
+    fn narrow(&mut self, lanes: &mut Lanes, file: File, left: Lane)
+        requires serves { ∥ serves self.old lanes.old.all ∥₁ }
+        requires left { Narrows (lane_of lanes.old.all (index_of file)) left }
+        ensures lanes { lanes.new.all ≡ slice_set lanes.old.all (index_of file) left }
+        ensures serves { ∥ serves self.new lanes.new.all ∥₁ }
+        ensures others { Stays lanes.old.all (cell self.old) (cell self.new) };
+
+    // Copies a block that the file keeps, which the caller has looked up in the lane.
+    fn read(&self, lanes: &Lanes, file: File, number: u32, into: &mut [u8; 512])
+        requires serves { ∥ serves self.now lanes.now.all ∥₁ }
+        requires kept { lane_lacks (lane_of lanes.now.all (index_of file)) number ≡ false }
+        ensures { into.new ≡ cell self.now (slot (lane_of lanes.now.all (index_of file)) number) };
 }

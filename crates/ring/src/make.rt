@@ -3,9 +3,9 @@ ghost use Rattle.std.specs.Prelude.{◌≡◌, ◌≤◌, length};
 ghost use Rattle.ring.specs.Meaning.{meaning_of};
 ghost use Rattle.medium.specs.Sound.{fresh_of, Fresh};
 
-use crate::Ring;
+use crate::{Cells, Ring};
+use lane::laned::Laned;
 use lane::plan::Plan;
-use medium::mark::Mark;
 
 // An empty ring over the cells; it cannot fail.
 pub fn make_ring<'a>(plan: Plan, cells: &'a mut [[u8; 512]]) -> Ring<'a>
@@ -13,15 +13,5 @@ pub fn make_ring<'a>(plan: Plan, cells: &'a mut [[u8; 512]]) -> Ring<'a>
     ensures is { meaning_of result ≡ fresh_of plan.capacities }
     ensures fresh { Fresh (meaning_of result) }
 {
-    ring_over(plan, cells)
-}
-
-fn ring_over<'a>(plan: Plan, cells: &'a mut [[u8; 512]]) -> Ring<'a>
-    requires { plan.total ≤ length cells.old }
-    ensures is { meaning_of result ≡ fresh_of plan.capacities }
-    ensures fresh { Fresh (meaning_of result) }
-{
-    let lanes = plan.lanes;
-    let mark = Mark::zeros();
-    Ring { cells, lanes, mark }
+    Laned::new(plan, Cells { cells })
 }

@@ -20,7 +20,7 @@ loop-n-preserved g c =
     let block : fetch_into m f n c.loop-n.block ≡ get_or bs (n - start) [] = fetched m f n c.loop-n.block a.0 (omega (arith, a.1)) (omega (arith, b.1)) ∙ ap (λ k. get_or bs (n - k) []) (sym a.1) in
     let within : n - start < length bs = omega (arith, a.1, b.1) in
     let files : f < 8 = omega (arith, ltb-false 7 f a.0) in
-    let byte = ((c.first.ensures.sound.files f files).whole (n - start) within).bytes 0 in
+    let byte = (((g.met.M.Medium.sound c.args.m.now).files f files).whole (n - start) within).bytes 0 in
     (omega (arith, ap (λ x. get_or x 0 0) (got ∙ block), byte), c.type_inv.block, one_more bs (n - start) (n + 1 - start) c.loop-n.sum c.fetch.new.into within (omega arith) (got ∙ block) inv.2)
 
 pub returns : goal.returns
