@@ -46,9 +46,8 @@ pub text_back : (xs : List ℕ) (n : ℕ) → no_zero xs ≡ true → before_zer
 text_back [] zero h = refl
 text_back [] (suc n) h = refl
 text_back (x ∷ xs) n h =
-    let rest : before_zero (xs ++ replicate n 0) ≡ xs = text_back xs n (and_parts _ _ h).1 in
     let z : (x == 0) ≡ false = grind (arith, nat_tests) in
-    rw z (ap (λ t. x ∷ t) rest)
+    rw z (ap (λ t. x ∷ t) (text_back xs n (and_parts _ _ h).1))
 
 pub text_from : (xs : List ℕ) → 1 ≤ length xs → length xs ≤ 16 → false ≡ not (no_zero xs) → group_text xs ≡ true
 text_from xs low high h =
