@@ -1,6 +1,7 @@
 // The number of a file that exists.
 ghost use Rattle.std.specs.Prelude.{◌≡◌, ◌≤◌};
 
+use crate::limits::FILES;
 use crate::refusal::Refusal;
 
 // A medium's files are numbered from 0 to 7.
@@ -18,7 +19,7 @@ impl TryFrom<u8> for File {
     ghost try_from_gives = { λ number r. number_in r ≡ existing number };
 
     fn try_from(number: u8) -> Result<File, Refusal> {
-        if number > 7 {
+        if number as usize >= FILES {
             return Err(Refusal::NoSuchIndex);
         }
         Ok(File { number })

@@ -4,7 +4,7 @@ ghost use Rattle.base.specs.declared.refusal.Refusal.TheVariants.{NoSuchIndex};
 ghost use Rattle.block.specs.Checks.{fault, fault_at, passed};
 
 use base::fault::{BlockFault, Place};
-use base::limits::FILES;
+use base::file::File;
 use base::refusal::Refusal;
 
 // A file, and the number of a block in it.
@@ -19,10 +19,7 @@ impl Address {
     pub(crate) fn check_file(self) -> Result<(), Refusal>
         ensures { result ≡ cond (nat_lt 7 self.file) (Err NoSuchIndex) (Ok tt) }
     {
-        if self.file as usize >= FILES {
-            return Err(Refusal::NoSuchIndex);
-        }
-        Ok(())
+        File::try_from(self.file).map(|_| ())
     }
 
     pub(crate) fn fault(self, refusal: Refusal, byte: u16, epoch: u32) -> BlockFault
