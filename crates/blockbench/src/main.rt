@@ -133,7 +133,10 @@ fn run(rt: &HostRuntime) -> anyhow::Result<()> {
     let blocks = some_blocks(heap, entries.as_slice())?;
     for line in rt.lines(heap) {
         let tally = match task_of(line?.as_str())? {
-            Task::Write(rounds) => tally_of(rounds, |n| Some(sum_of(write_block(Address { file: 0, number: n }, &entries)))),
+            Task::Write(rounds) => tally_of(
+                rounds,
+                |n| Some(sum_of(write_block(Address { file: 0, number: n }, &entries))),
+            ),
             Task::Read(rounds) => tally_of(rounds, |n| {
                 let number = n % BLOCKS;
                 let block = blocks.get(number as usize)?;
