@@ -9,13 +9,9 @@ use std::process::Abort;
 use std::test::Fail;
 
 fn answers(rt: &impl Abort, got: Result<u32, Refusal>, number: u32) -> Result<(), Fail> {
-    match got {
-        Ok(n) => {
-            assert_eq!(rt; n, number);
-            Ok(())
-        },
-        Err(e) => Err(Fail::new("a call was refused")),
-    }
+    let n = got.map_err(|_| Fail::new("a call was refused"))?;
+    assert_eq!(rt; n, number);
+    Ok(())
 }
 
 fn refuses(rt: &impl Abort, got: Result<u32, Refusal>, number: u8) -> Result<(), Fail> {
@@ -51,13 +47,9 @@ fn wraps<M: Medium>(rt: &impl Abort, m: &mut M, capacity: u32) -> Result<(), Fai
 }
 
 fn wraps_in(rt: &impl Abort, capacities: &[u32; 8], cells: &mut [[u8; 512]]) -> Result<(), Fail> {
-    match plan_of(capacities, cells.len()) {
-        Ok(plan) => {
-            let mut ring = make_ring(plan, cells);
-            wraps(rt, &mut ring, capacities[0])
-        }
-        Err(e) => Err(Fail::new("the memory suffices")),
-    }
+    let plan = plan_of(capacities, cells.len()).map_err(|_| Fail::new("the memory suffices"))?;
+    let mut ring = make_ring(plan, cells);
+    wraps(rt, &mut ring, capacities[0])
 }
 
 #[test]
@@ -108,14 +100,10 @@ fn ring_refuses(rt: HostRuntime) -> Result<(), Fail> {
     assert!(rt; plan_of(&[0, 1, 1, 1, 1, 1, 1, 1], 8).is_err());
     assert!(rt; plan_of(&[4097, 1, 1, 1, 1, 1, 1, 1], 9000).is_err());
     assert!(rt; plan_of(&[2, 1, 1, 1, 1, 1, 1, 1], 8).is_err());
-    match plan_of(&[1; 8], cells.len()) {
-        Ok(plan) => {
-            let mut ring = make_ring(plan, &mut cells);
-            all_refusals(&rt, &mut ring)?;
-            mark_stays(&rt, &mut ring)
-        }
-        Err(e) => Err(Fail::new("the memory suffices")),
-    }
+    let plan = plan_of(&[1; 8], cells.len()).map_err(|_| Fail::new("the memory suffices"))?;
+    let mut ring = make_ring(plan, &mut cells);
+    all_refusals(&rt, &mut ring)?;
+    mark_stays(&rt, &mut ring)
 }
 
 // Fills two files, lets both go, and fills them again in the other order.
@@ -138,15 +126,13 @@ fn pool_uses_pages_again(rt: HostRuntime) -> Result<(), Fail> {
     let mut table = [0u32; 16];
     assert!(rt; plan_pool(&[1; 8], 7, 16).is_err());
     assert!(rt; plan_pool(&[1; 8], 8, 15).is_err());
-    match plan_pool(&[1; 8], pages.len(), table.len()) {
-        Ok(plan) => {
-            let mut pool = make_pool(plan, &mut pages, &mut table);
-            pages_change_hands(&rt, &mut pool)?;
-            all_refusals(&rt, &mut pool)?;
-            mark_stays(&rt, &mut pool)
-        }
-        Err(e) => Err(Fail::new("the memory suffices")),
-    }
+    let plan = plan_pool(&[1; 8], pages.len(), table.len()).map_err(|_| Fail::new(
+        "the memory suffices",
+    ))?;
+    let mut pool = make_pool(plan, &mut pages, &mut table);
+    pages_change_hands(&rt, &mut pool)?;
+    all_refusals(&rt, &mut pool)?;
+    mark_stays(&rt, &mut pool)
 }
 
 // One synced block and two that are not, in file 2.
@@ -173,24 +159,18 @@ fn cuts<M: Cuttable>(rt: &impl Abort, m: &mut M) -> Result<(), Fail> {
 #[test]
 fn ring_is_cut(rt: HostRuntime) -> Result<(), Fail> {
     let mut cells = [[0u8; 512]; 24];
-    match plan_of(&[3; 8], cells.len()) {
-        Ok(plan) => {
-            let mut ring = make_ring(plan, &mut cells);
-            cuts(&rt, &mut ring)
-        }
-        Err(e) => Err(Fail::new("the memory suffices")),
-    }
+    let plan = plan_of(&[3; 8], cells.len()).map_err(|_| Fail::new("the memory suffices"))?;
+    let mut ring = make_ring(plan, &mut cells);
+    cuts(&rt, &mut ring)
 }
 
 #[test]
 fn pool_is_cut(rt: HostRuntime) -> Result<(), Fail> {
     let mut pages = [[0u8; 512]; 24];
     let mut table = [0u32; 48];
-    match plan_pool(&[3; 8], pages.len(), table.len()) {
-        Ok(plan) => {
-            let mut pool = make_pool(plan, &mut pages, &mut table);
-            cuts(&rt, &mut pool)
-        }
-        Err(e) => Err(Fail::new("the memory suffices")),
-    }
+    let plan = plan_pool(&[3; 8], pages.len(), table.len()).map_err(|_| Fail::new(
+        "the memory suffices",
+    ))?;
+    let mut pool = make_pool(plan, &mut pages, &mut table);
+    cuts(&rt, &mut pool)
 }
