@@ -1,7 +1,6 @@
 -- One file cut after the other.
-use Rattle.std.proofs.Common.{◌≡◌, ℕ, ◌+◌, ◌-◌, ◌<◌, ◌≤◌, min, List, [], ◌∷◌, ◌++◌, map, length, get_or, take, drop, set, sym, ap, ◌∙◌, ⊎_elim, append_assoc, add-one, arith, drop-cons}
-use Rattle.std.proofs.lemmas.List.{take_all, drop_all, take_more_set, drop-set-lt, length-append, length-take-le, append-nil, get_or-map}
-use Rattle.std.proofs.lemmas.Bool.{cases_lt}
+use Rattle.std.proofs.Common.{◌≡◌, ℕ, ◌+◌, ◌-◌, ◌<◌, ◌≤◌, min, List, [], ◌∷◌, ◌++◌, map, length, get_or, take, drop, set, sym, ap, ◌∙◌, append_assoc, add-one, arith, drop-cons}
+use Rattle.std.proofs.lemmas.List.{take_all, drop_all, drop_min, take_more_set, drop-set-lt, length-append, length-take-le, append-nil, get_or-map}
 use lib.ListN.{length-map}
 use Rattle.std.proofs.lemmas.List.FromFn.{get_or-range_with_len}
 use Rattle.std.specs.List.{range_with_len}
@@ -12,13 +11,6 @@ use Rattle.medium.specs.Steps.{all_synced}
 use Rattle.medium.specs.Sound.{SoundFile, Sound}
 use Rattle.medium.specs.Cuts.{lasting, unsynced, trimmed, extended, cut_file, cut_files}
 use Rattle.lane.proofs.Files.{file_with, with_with}
-
-pub take-least : {X : Type 0} (n : ℕ) (xs : List X) → take (min n (length xs)) xs ≡ take n xs
-take-least n xs =
-    ⊎_elim
-    (λ lt. ap (λ k. take k xs) (omega arith))
-    (λ ge. take_all (min n (length xs)) xs (omega arith) ∙ sym (take_all n xs ge))
-    (cases_lt n (length xs))
 
 -- what lasts, with a tail, all synced
 synced_tail : (x : FileModel) (tail : List (List ℕ)) → SoundFile x → all_synced (extended (trimmed x (x.synced - x.first)) tail) ≡ cut_file x tail
@@ -50,14 +42,7 @@ nth_file files is i d low =
 abbrev pub so_far : List FileModel → List ℕ → ℕ → List (List ℕ) → List FileModel
 so_far fs ns f rest = take f fs ++ cut_files (drop f fs) (drop f ns) rest
 
-drop-least : {X : Type 0} (n : ℕ) (xs : List X) → drop (min (length xs) n) xs ≡ drop n xs
-drop-least n xs =
-    ⊎_elim
-    (λ lt. ap (λ k. drop k xs) (omega arith))
-    (λ ge. drop_all (min (length xs) n) xs (omega arith) ∙ sym (drop_all n xs ge))
-    (cases_lt n (length xs))
-
-pub cut_next : (fs : List FileModel) (ns : List ℕ) (f : ℕ) (rest : List (List ℕ)) → f < length fs → f < length ns → so_far (set fs f (cut_file (get_or fs f no_file) (take (min (get_or ns f 0) (unsynced (get_or fs f no_file))) rest))) ns (f + 1) (drop (min (length rest) (get_or ns f 0)) rest) ≡ so_far fs ns f rest
+pub cut_next : (fs : List FileModel) (ns : List ℕ) (f : ℕ) (rest : List (List ℕ)) → f < length fs → f < length ns → so_far (set fs f (cut_file (get_or fs f no_file) (take (min (get_or ns f 0) (unsynced (get_or fs f no_file))) rest))) ns (f + 1) (drop (min (get_or ns f 0) (length rest)) rest) ≡ so_far fs ns f rest
 cut_next fs ns f rest lf ln =
     let x = get_or fs f no_file in
     let n = get_or ns f 0 in
@@ -68,7 +53,7 @@ cut_next fs ns f rest lf ln =
     let right : so_far fs ns f rest ≡ take f fs ++ (y ∷ more) = λ i. take f fs ++ cut_files (files i) (shown i) rest in
     let front = take_more_set fs f y lf in
     let back = drop-set-lt (f + 1) fs f y (omega arith) in
-    let tail = drop-least n rest in
+    let tail = drop_min n rest in
     (λ i. front i ++ cut_files (back i) (drop (f + 1) ns) (tail i))
     ∙ append_assoc (take f fs) (y ∷ []) more
     ∙ sym right

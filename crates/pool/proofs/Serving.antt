@@ -30,14 +30,14 @@ module _ (ls : List Lane) (total spare : ℕ) (table : List ℕ) (eight : length
 
   -- a file that keeps a block leaves a place for a spare page
   pub spare_room : l.first < l.count → spare < total
-  spare_room some = spare_place ls f no_lane total spare s.counted (omega arith) some
+  spare_room some = spare_place ls f total spare eight low s.counted some
 
   -- a lane of the same numbers
   pub same_serves : (g : Lane) → SamePlace l g → g.first ≡ l.first → g.count ≡ l.count → Serves (set ls f g) total spare table
   same_serves g p e3 e4 =
       record {
         inside = inside_set ls f g total eight low p s.inside;
-        counted = same_counted ls f no_lane g total spare (omega arith) s.counted (omega arith);
+        counted = same_counted ls f total spare eight low s.counted g (omega arith);
         distinct = same_distinct ls f g total spare table eight low p e3 e4 s.distinct;
         ranged = same_ranged ls f g total spare table eight low p e3 e4 s.ranged;
       }
@@ -49,7 +49,7 @@ module _ (ls : List Lane) (total spare : ℕ) (table : List ℕ) (eight : length
       let within : total + spare < length table = omega (arith, spare_room (omega (arith, x.from, x.to))) in
       record {
         inside = inside_set ls f g total eight low p s.inside;
-        counted = freed_counted ls f no_lane g total spare (omega arith) s.counted x.fewer;
+        counted = freed_counted ls f total spare eight low s.counted g x.fewer;
         distinct = freed_distinct ls f g total spare table eight low p apart s.inside number x within s.distinct;
         ranged = freed_ranged ls f g total spare table eight low p apart s.inside number x within s.ranged;
       }
@@ -63,7 +63,7 @@ module _ (ls : List Lane) (total spare : ℕ) (table : List ℕ) (eight : length
     next = slot g (g.count - 1)
 
     pub some : 0 < spare
-    some = some_spare ls f no_lane total spare eight apart s.inside s.counted (omega arith) (omega (arith, x.first, x.count, x.capacity, g.room))
+    some = some_spare ls f total spare eight low s.counted g apart s.inside x
 
     pub top_low : top < total
     top_low = let z = some in s.ranged (total + spare - 1) (inr (omega arith, omega arith))
@@ -80,7 +80,7 @@ module _ (ls : List Lane) (total spare : ℕ) (table : List ℕ) (eight : length
           let p : SamePlace l g = record { base = x.base; capacity = x.capacity } in
           record {
             inside = inside_set ls f g total eight low p s.inside;
-            counted = grown_counted ls f no_lane g total spare (omega arith) some s.counted x.first x.count;
+            counted = grown_counted ls f total spare eight low s.counted g some x;
             distinct = grown_distinct ls f g total spare table eight low p apart s.inside x some within s.distinct;
             ranged = grown_ranged ls f g total spare table eight low p apart s.inside x some within s.ranged;
           }

@@ -1,73 +1,66 @@
 -- How many pages are in use.
-use Rattle.std.proofs.Common.{◌≡◌, ℕ, zero, suc, ◌+◌, ◌-◌, ◌<◌, ◌≤◌, List, [], ◌∷◌, length, get_or, set, refl, arith}
+use Rattle.std.proofs.Common.{◌≡◌, ℕ, zero, suc, ◌+◌, ◌-◌, ◌<◌, ◌≤◌, List, [], ◌∷◌, length, get_or, take, set, refl, ap, add-one, arith}
+use Rattle.std.specs.Prelude.{sum_by}
+use Rattle.std.proofs.lemmas.List.{take_all}
+use Rattle.std.proofs.lemmas.List.Sums.{sum_by-cons, sum_by-set, sum_by_more, get_or-le-sum_by, sum_by-le-sum_by}
 use Rattle.lane.specs.declared.lane.Lane.{Lane}
-use Rattle.lane.specs.Lanes.{Apart, Inside, Unused}
+use Rattle.lane.specs.Lanes.{no_lane, lane_of, Apart, Inside, Unused}
+use Rattle.lane.specs.Steps.{Grows}
 use Rattle.pool.specs.Pages.{used}
 
 capacities : List Lane → ℕ
-capacities [] = 0
-capacities (l ∷ ls) = l.capacity + capacities ls
+capacities ls = sum_by (λ (l : Lane). l.capacity) ls
 
-pub used-set : (ls : List Lane) (f : ℕ) (d g : Lane) → f < length ls → used (set ls f g) + ((get_or ls f d).count - (get_or ls f d).first) ≡ used ls + (g.count - g.first)
-used-set [] f d g lt = absurd (omega arith)
-used-set (l ∷ ls) zero d g lt = omega arith
-used-set (l ∷ ls) (suc f) d g lt = let h = used-set ls f d g (omega arith) in omega arith
-
-pub used_part : (ls : List Lane) (f : ℕ) (d : Lane) → f < length ls → (get_or ls f d).count - (get_or ls f d).first ≤ used ls
-used_part [] f d lt = absurd (omega arith)
-used_part (l ∷ ls) zero d lt = omega arith
-used_part (l ∷ ls) (suc f) d lt = let h = used_part ls f d (omega arith) in omega arith
-
-within : (ls : List Lane) → used ls ≤ capacities ls
+-- the lanes before one end where it begins, and all of them within the slots
+before : (ls : List Lane) (k : ℕ) → length ls ≡ 8 → Apart ls → k < 8 → capacities (take k ls) ≤ (lane_of ls k).base
 unfolding capacities
-within [] = omega arith
-within (l ∷ ls) = let h = within ls in omega (arith, l.room)
+before ls zero eight apart low = omega arith
+before ls (suc k) eight apart low =
+    let h = before ls k eight apart (omega arith) in
+    let more = sum_by_more (λ (l : Lane). l.capacity) ls k no_lane (omega arith) in
+    let next = apart k (k + 1) no_lane (omega arith, omega arith) in
+    rw (← add-one) (omega (arith, more, next, h))
 
-below : (ls : List Lane) (f : ℕ) (d : Lane) → f < length ls → (get_or ls f d).count < (get_or ls f d).first + (get_or ls f d).capacity → used ls < capacities ls
+fit : (ls : List Lane) (n : ℕ) → length ls ≡ 8 → Apart ls → Inside ls n → capacities ls ≤ n
 unfolding capacities
-below [] f d lt room = absurd (omega arith)
-below (l ∷ ls) zero d lt room = let h = within ls in omega (arith, l.some)
-below (l ∷ ls) (suc f) d lt room = let h = below ls f d (omega arith) room in omega (arith, l.room)
+fit ls n eight apart inside =
+    let h = before ls 7 eight apart (omega arith) in
+    let more = sum_by_more (λ (l : Lane). l.capacity) ls 7 no_lane (omega arith) in
+    let all = ap (sum_by (λ (l : Lane). l.capacity)) (take_all 8 ls (omega arith)) in
+    omega (arith, h, more, all, inside 7 no_lane (omega arith))
 
-fit : (ls : List Lane) (d : Lane) (n : ℕ) → length ls ≡ 8 → Apart ls → Inside ls n → capacities ls ≤ n
-unfolding capacities
-fit (l0 ∷ l1 ∷ l2 ∷ l3 ∷ l4 ∷ l5 ∷ l6 ∷ l7 ∷ []) d n eight apart inside =
-    omega (arith, apart 0 1 d (omega arith, omega arith), apart 1 2 d (omega arith, omega arith), apart 2 3 d (omega arith, omega arith), apart 3 4 d (omega arith, omega arith), apart 4 5 d (omega arith, omega arith), apart 5 6 d (omega arith, omega arith), apart 6 7 d (omega arith, omega arith), inside 7 d (omega arith))
-fit [] d n eight apart inside = absurd (omega arith)
-fit (l0 ∷ []) d n eight apart inside = absurd (omega arith)
-fit (l0 ∷ l1 ∷ []) d n eight apart inside = absurd (omega arith)
-fit (l0 ∷ l1 ∷ l2 ∷ []) d n eight apart inside = absurd (omega arith)
-fit (l0 ∷ l1 ∷ l2 ∷ l3 ∷ []) d n eight apart inside = absurd (omega arith)
-fit (l0 ∷ l1 ∷ l2 ∷ l3 ∷ l4 ∷ []) d n eight apart inside = absurd (omega arith)
-fit (l0 ∷ l1 ∷ l2 ∷ l3 ∷ l4 ∷ l5 ∷ []) d n eight apart inside = absurd (omega arith)
-fit (l0 ∷ l1 ∷ l2 ∷ l3 ∷ l4 ∷ l5 ∷ l6 ∷ []) d n eight apart inside = absurd (omega arith)
-fit (l0 ∷ l1 ∷ l2 ∷ l3 ∷ l4 ∷ l5 ∷ l6 ∷ l7 ∷ l8 ∷ ls) d n eight apart inside = absurd (omega arith)
+module _ (ls : List Lane) (f total spare : ℕ) (eight : length ls ≡ 8) (low : f < 8) (counted : spare + used ls ≡ total) where
+  abbrev l : Lane
+  l = lane_of ls f
 
--- a file with room leaves a spare page
-pub some_spare : (ls : List Lane) (f : ℕ) (d : Lane) (total spare : ℕ) → length ls ≡ 8 → Apart ls → Inside ls total → spare + used ls ≡ total → f < length ls → (get_or ls f d).count < (get_or ls f d).first + (get_or ls f d).capacity → 0 < spare
-some_spare ls f d total spare eight apart inside counted lt room = let a = below ls f d lt room in let b = fit ls d total eight apart inside in omega arith
+  used_set : (g : Lane) → used (set ls f g) + (l.count - l.first) ≡ used ls + (g.count - g.first)
+  used_set g = sum_by-set (λ (x : Lane). x.count - x.first) ls f g no_lane (omega arith)
 
--- a file with a block leaves a place for a spare page
-pub spare_place : (ls : List Lane) (f : ℕ) (d : Lane) (total spare : ℕ) → spare + used ls ≡ total → f < length ls → (get_or ls f d).first < (get_or ls f d).count → spare < total
-spare_place ls f d total spare counted lt some = let a = used_part ls f d lt in omega arith
+  -- a file with room leaves a spare page
+  pub some_spare : (g : Lane) → Apart ls → Inside ls total → Grows l g → 0 < spare
+  unfolding capacities
+  some_spare g apart inside x =
+      let a = used_set g in
+      let b = sum_by-set (λ (z : Lane). z.capacity) ls f g no_lane (omega arith) in
+      let c = sum_by-le-sum_by (λ (z : Lane). z.count - z.first) (λ (z : Lane). z.capacity) (set ls f g) (λ z. omega (arith, z.room)) in
+      omega (arith, a, b, c, fit ls total eight apart inside, x.first, x.count, x.capacity, l.dropped, l.lasting)
 
-pub grown_counted : (ls : List Lane) (f : ℕ) (d g : Lane) (total spare : ℕ) → f < length ls → 0 < spare → spare + used ls ≡ total → g.first ≡ (get_or ls f d).first → g.count ≡ (get_or ls f d).count + 1 → spare - 1 + used (set ls f g) ≡ total
-grown_counted ls f d g total spare lt some counted e3 e4 =
-    let l = get_or ls f d in
-    let a = l.dropped in
-    let b = l.lasting in
-    let h = used-set ls f d g lt in
-    omega arith
+  -- a file with a block leaves a place for a spare page
+  pub spare_place : l.first < l.count → spare < total
+  spare_place some = omega (arith, get_or-le-sum_by (λ (z : Lane). z.count - z.first) ls f no_lane (omega arith))
 
-pub freed_counted : (ls : List Lane) (f : ℕ) (d g : Lane) (total spare : ℕ) → f < length ls → spare + used ls ≡ total → g.count - g.first + 1 ≡ (get_or ls f d).count - (get_or ls f d).first → spare + 1 + used (set ls f g) ≡ total
-freed_counted ls f d g total spare lt counted e = let h = used-set ls f d g lt in omega arith
+  pub grown_counted : (g : Lane) → 0 < spare → Grows l g → spare - 1 + used (set ls f g) ≡ total
+  grown_counted g some x = omega (arith, used_set g, x.first, x.count, l.dropped, l.lasting)
 
-pub same_counted : (ls : List Lane) (f : ℕ) (d g : Lane) (total spare : ℕ) → f < length ls → spare + used ls ≡ total → g.count - g.first ≡ (get_or ls f d).count - (get_or ls f d).first → spare + used (set ls f g) ≡ total
-same_counted ls f d g total spare lt counted e = let h = used-set ls f d g lt in omega arith
+  pub freed_counted : (g : Lane) → g.count - g.first + 1 ≡ l.count - l.first → spare + 1 + used (set ls f g) ≡ total
+  freed_counted g e = omega (arith, used_set g)
+
+  pub same_counted : (g : Lane) → g.count - g.first ≡ l.count - l.first → spare + used (set ls f g) ≡ total
+  same_counted g e = omega (arith, used_set g)
 
 none_used : (ls : List Lane) → ((i : ℕ) (d : Lane) → i < length ls → (get_or ls i d).count ≡ 0) → used ls ≡ 0
 none_used [] h = refl
-none_used (l ∷ ls) h = let a = h 0 l (omega arith) in let b = none_used ls (λ i d lt. h (suc i) d (omega arith)) in omega arith
+none_used (l ∷ ls) h = omega (arith, sum_by-cons (λ (z : Lane). z.count - z.first) l ls, h 0 l (omega arith), none_used ls (λ i d lt. h (suc i) d (omega arith)))
 
 pub unused_counted : (ls : List Lane) (total : ℕ) → length ls ≡ 8 → Unused ls → total + used ls ≡ total
-unused_counted ls total eight unused = let z = none_used ls (λ i d lt. unused i d (omega arith)) in omega arith
+unused_counted ls total eight unused = omega (arith, none_used ls (λ i d lt. unused i d (omega arith)))

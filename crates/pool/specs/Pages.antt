@@ -1,5 +1,5 @@
 -- Pages by number: a table says which page stands in each slot, and behind the slots which pages are free.
-use Rattle.std.specs.Prelude.{◌≡◌, ℕ, ◌+◌, ◌-◌, ◌<◌, ◌≤◌, ◌≢◌, ◌⊎◌, List, [], ◌∷◌, slice_index, slice_index_or}
+use Rattle.std.specs.Prelude.{◌≡◌, ℕ, ◌+◌, ◌-◌, ◌<◌, ◌≤◌, ◌≢◌, ◌⊎◌, List, [], sum_by, slice_index, slice_index_or}
 use Rattle.medium.specs.declared.mark.Mark.{Mark}
 use Rattle.medium.specs.Model.{MediumModel}
 use Rattle.lane.specs.declared.lane.Lane.{Lane}
@@ -14,8 +14,7 @@ pool_model pages table ls k = model_of (page_of pages table) ls k
 
 -- how many pages the lanes use
 abbrev pub used : List Lane → ℕ
-used [] = 0
-used (l ∷ ls) = (l.count - l.first) + used ls
+used ls = sum_by (λ (l : Lane). l.count - l.first) ls
 
 -- a slot that holds a kept block
 pub record Kept (ls : List Lane) (s : ℕ) : Type 0 where

@@ -1,9 +1,8 @@
 // The check of the memory for a pool, and the making after it.
-ghost use Rattle.std.specs.Prelude.{◌≡◌, ◌+◌, ◌/◌, ◌≤◌, min, true, false, length, sum, OnOk, OnErr, IfOk, IfErr};
+ghost use Rattle.std.specs.Prelude.{◌≡◌, ◌+◌, ◌/◌, ◌≤◌, min, true, false, length, sum, slice_index, EachIndex, OnOk, OnErr, IfOk, IfErr};
 ghost use Rattle.lane.specs.Fits.{plan_fits};
 ghost use Rattle.medium.specs.Sound.{fresh_of, Fresh};
 ghost use Rattle.pool.specs.Meaning.{meaning_of};
-ghost use Rattle.pool.specs.Pages.{Numbered};
 
 use crate::{Pages, Pool};
 use base::refusal::Refusal;
@@ -22,7 +21,8 @@ pub fn plan_pool(capacities: &[u32; 8], pages: usize, numbers: usize) -> Result<
     plan_of(capacities, pages.min(numbers / 2))
 }
 
-// An empty pool over the pages; it cannot fail.
+// An empty pool over the pages; it cannot fail. That pages and table are as long as the plan takes, whoever passed their lengths to `plan_pool`
+// knows: the plan and the memory are three values, so the fact is asked of all.
 pub fn make_pool<'a>(plan: Plan, pages: &'a mut [[u8; 512]], table: &'a mut [u32]) -> Pool<'a>
     requires paged { plan.total ≤ length pages.old }
     requires tabled { plan.total + plan.total ≤ length table.old }
@@ -30,7 +30,8 @@ pub fn make_pool<'a>(plan: Plan, pages: &'a mut [[u8; 512]], table: &'a mut [u32
     ensures fresh { Fresh (meaning_of result) }
 {
     let total = plan.total;
-    number_pages(total, table);
+    let slots = total as usize;
+    number_pages(&mut table[slots..2 * slots]);
     Laned::new(
         plan,
         Pages {
@@ -43,12 +44,11 @@ pub fn make_pool<'a>(plan: Plan, pages: &'a mut [[u8; 512]], table: &'a mut [u32
 }
 
 // Makes every page spare.
-fn number_pages(total: u32, table: &mut [u32])
-    requires few { total ≤ 32768 }
-    requires tabled { total + total ≤ length table.old }
-    ensures { Numbered total table.new }
+fn number_pages(spares: &mut [u32])
+    requires { length spares.old ≤ 32768 }
+    ensures { EachIndex spares.new (λ k. slice_index spares.new k ≡ k) }
 {
-    for i in 0..total {
-        table[(total + i) as usize] = i;
+    for (page, place) in spares.iter_mut().enumerate() {
+        *place = page as u32;
     }
 }

@@ -53,7 +53,7 @@ impl<S: Slots> Laned<S> {
         let mut rest = tails;
         for (i, &many) in shown.iter().enumerate() {
             self.cut_file(files[i], many, rest);
-            rest = &rest[rest.len().min(many as usize)..];
+            rest = &rest[(many as usize).min(rest.len())..];
         }
     }
 }

@@ -20,11 +20,11 @@ loop-i-preserved g c =
     let many = get_or shown i 0 in
     let x = file_of n i in
     let is : meaning_of c.cut_file.new.self ≡ with_file n i (cut_file x (take (min many (unsynced x)) rest)) = c.cut_file.ensures ∙ ap (λ f. with_file n f (cut_file (file_of n f) (take (min many (unsynced (file_of n f))) rest))) at in
-    let left : take (length rest - c.min.result) (drop c.min.result rest) ≡ drop (min (length rest) many) rest = take_all _ _ (omega (arith, length-drop c.min.result rest)) ∙ ap (λ k. drop k rest) c.min.ensures in
+    let left : take (length rest - c.min.result) (drop c.min.result rest) ≡ drop (min many (length rest)) rest = take_all _ _ (omega (arith, length-drop c.min.result rest)) ∙ ap (λ k. drop k rest) c.min.ensures in
     record {
       mark = ap (λ (z : MediumModel). z.mark) is ∙ inv.mark;
       files = ap (so_far (meaning_of c.cut_file.new.self).files shown (i + 1)) left
-          ∙ ap (λ (z : MediumModel). so_far z.files shown (i + 1) (drop (min (length rest) many) rest)) is
+          ∙ ap (λ (z : MediumModel). so_far z.files shown (i + 1) (drop (min many (length rest)) rest)) is
           ∙ cut_next n.files shown i rest (omega (arith, c.loop-i.self.sound.eight, c.loop-i-test.true)) (omega (arith, c.loop-i-test.true, c.told-shown)) ∙ inv.files;
     }
 
