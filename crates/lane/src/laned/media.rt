@@ -69,7 +69,6 @@ impl<S: Slots> Laned<S> {
         requires { lacks (file_in self.now (index_of file)) number ≡ false }
         ensures { into.new ≡ block_at (file_in self.now (index_of file)) number into.old }
     {
-        let lane = self.lane(file);
         self.slots.read(&self.lanes, file, number, into);
     }
 
