@@ -38,6 +38,7 @@ pub type BlockFault = Fault<MediumFault>;
 
 pub type ReplayFault = Fault<BlockFault>;
 
+// Each layer's name is a constant of its fault: a trait with that constant would be one item more for the same three.
 impl MediumFault {
     pub const LAYER: Layer = Layer::Medium;
 }

@@ -22,7 +22,7 @@ fn bytes_at<const N: usize>(block: &[u8; 512], at: usize) -> [u8; N]
     *block[at..].first_chunk::<N>().unwrap()
 }
 
-// Two bytes of a block as a number.
+// Two bytes of a block as a number; and four, below: no trait of the library's reads numbers of both widths.
 fn two_at(block: &[u8; 512], at: usize) -> u16
     requires { at + 2 ≤ 512 }
     ensures { result ≡ number_at 2 at block.now }

@@ -8,7 +8,8 @@ use crate::lanes::Lanes;
 use base::limits::MAX_CAPACITY;
 use base::refusal::Refusal;
 
-// Eight empty lanes, and how many slots they take.
+// Eight empty lanes, and how many slots they take. The capacities stand beside the lanes, which have them too, since
+// whoever makes a medium of the plan is promised these capacities and sees no lane.
 #[derive(Clone, Copy)]
 pub struct Plan {
     pub capacities: [u32; 8],
