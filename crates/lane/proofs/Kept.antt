@@ -160,13 +160,3 @@ inside_set ls f g n eight low p inside i d h =
     let e1 = p.base in
     let e2 = p.capacity in
     grind (arith, get_or-set_same, get_or-set_other)
-
-pub apart_set : (ls : List Lane) (f : ℕ) (g : Lane) → length ls ≡ 8 → f < 8 → SamePlace (lane_of ls f) g → Apart ls → Apart (set ls f g)
-apart_set ls f g eight low p apart i j d q =
-    let o = cases_eq i f in
-    let o' = cases_eq j f in
-    let here = apart i j d q in
-    let same = get_or_default ls f d no_lane (omega arith) in
-    let e1 = p.base in
-    let e2 = p.capacity in
-    grind (arith, get_or-set_same, get_or-set_other)

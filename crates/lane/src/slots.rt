@@ -26,7 +26,7 @@ pub trait Slots {
         ensures filled { cell self.new (slot longer (longer.count - 1)) ≡ block.now }
         ensures others { Stays lanes.old.all (cell self.old) (cell self.new) };
 
-    // Gives a file a lane with fewer numbers, and lets go of the blocks that it no longer has.
+    // Gives a file a lane with fewer numbers, and lets go of the blocks that it no longer has. Whoever narrows a lane knows that it is narrower.
     fn narrow(&mut self, lanes: &mut Lanes, file: File, left: Lane)
         requires serves { ∥ serves self.old lanes.old.all ∥₁ }
         requires left { Narrows (lane_of lanes.old.all (index_of file)) left }

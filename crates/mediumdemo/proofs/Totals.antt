@@ -1,6 +1,7 @@
 -- Steps of the sum.
-use Rattle.std.proofs.Common.{◌≡◌, ℕ, ◌+◌, ◌-◌, ◌<◌, ◌≤◌, Bool, true, false, cond, List, [], ◌∷◌, length, get_or, drop, Ok, Err, refl, ap, ◌∙◌, add-one, arith, drop-cons}
-use Rattle.std.proofs.lemmas.List.{get_or_default, drop_all}
+use Rattle.std.proofs.Common.{◌≡◌, ℕ, ◌+◌, ◌-◌, ◌<◌, ◌≤◌, Bool, true, false, cond, List, [], length, get_or, take, Ok, Err, refl, ap, ◌∙◌, arith}
+use Rattle.std.proofs.lemmas.List.{get_or_default, take_all}
+use Rattle.std.proofs.lemmas.List.Sums.{sum_by_more}
 use Rattle.std.proofs.lemmas.Bool.{le-ltb, lt-leb, or_from}
 use Rattle.base.specs.declared.refusal.Refusal.{Refusal}
 use Rattle.base.specs.declared.refusal.Refusal.TheVariants.{NoSuchIndex}
@@ -21,16 +22,15 @@ fetched m f n old low a b =
     let some : lacks (file_of m f) n ≡ false = or_from _ _ (le-ltb _ _ a) (lt-leb (count_of (file_of m f)) n b) in
     rw (low, some) (get_or_default (file_of m f).kept (n - (file_of m f).first) old [] (omega arith))
 
-pub one_more : (bs : List (List ℕ)) (i j sum : ℕ) (b : List ℕ) → i < length bs → j ≡ i + 1 → b ≡ get_or bs i [] → sum + total (drop i bs) ≡ total bs → sum + get_or b 0 0 + total (drop j bs) ≡ total bs
+pub one_more : (bs : List (List ℕ)) (i j sum : ℕ) (b : List ℕ) → i < length bs → j ≡ i + 1 → b ≡ get_or bs i [] → sum ≡ total (take i bs) → sum + get_or b 0 0 ≡ total (take j bs)
 one_more bs i j sum b lt next is inv =
-    let first : drop i bs ≡ get_or bs i [] ∷ drop (i + 1) bs = rw (add-one, drop-cons bs i []) in
-    let a = ap total first in
+    let a = sum_by_more (λ (x : List ℕ). get_or x 0 0) bs i [] lt in
     let c = ap (λ x. get_or x 0 0) is in
-    let d = ap (λ k. total (drop k bs)) next in
+    let d = ap (λ k. total (take k bs)) next in
     omega arith
 
-pub all_done : (m : MediumModel) (f i sum : ℕ) → no_such_file f ≡ false → length (file_of m f).kept ≤ i → sum + total (drop i (file_of m f).kept) ≡ total (file_of m f).kept → Ok sum ≡ tally_answer m f
+pub all_done : (m : MediumModel) (f i sum : ℕ) → no_such_file f ≡ false → length (file_of m f).kept ≤ i → sum ≡ total (take i (file_of m f).kept) → Ok sum ≡ tally_answer m f
 all_done m f i sum low past inv =
-    let none = ap total (drop_all i (file_of m f).kept past) in
+    let all = ap total (take_all i (file_of m f).kept past) in
     let e : sum ≡ total (file_of m f).kept = omega arith in
     ap (λ n. Ok n) e ∙ rw low

@@ -41,6 +41,7 @@ impl<'a> Slots for Pages<'a> {
         lanes.replace(file, longer);
     }
 
+    // Numbers go one by one, those at the front first, since each gives its page back.
     fn narrow(&mut self, lanes: &mut Lanes, file: File, left: Lane) {
         'front: while lanes.of(file).first < left.first {
             let mut lane = lanes.of(file);

@@ -21,7 +21,11 @@ loop-n-preserved g c =
     let within : n - start < length bs = omega (arith, a.1, b.1) in
     let files : f < 8 = omega (arith, ltb-false 7 f a.0) in
     let byte = (((g.met.M.Medium.sound c.args.m.now).files f files).whole (n - start) within).bytes 0 in
-    (omega (arith, ap (λ x. get_or x 0 0) (got ∙ block), byte), c.type_inv.block, one_more bs (n - start) (n + 1 - start) c.loop-n.sum c.fetch.new.into within (omega arith) (got ∙ block) inv.2)
+    record {
+      small = omega (arith, ap (λ x. get_or x 0 0) (got ∙ block), byte, inv.small);
+      long = c.type_inv.block;
+      sum = one_more bs (n - start) (n + 1 - start) c.loop-n.sum c.fetch.new.into within (omega arith) (got ∙ block) inv.sum;
+    }
 
 pub returns : goal.returns
 returns g c =
@@ -29,4 +33,4 @@ returns g c =
     let f = c.args.file in
     let a = was_told m f c.in_ok-first.first (λ x. x.first) c.in_ok-first.ensures.answer in
     let b = was_told m f c.in_ok-count.count count_of c.in_ok-count.ensures.answer in
-    all_done m f (c.loop-n.n - c.in_ok-first.first) c.loop-n.sum a.0 (omega (arith, a.1, b.1)) c.loop-n.invariant.2
+    all_done m f (c.loop-n.n - c.in_ok-first.first) c.loop-n.sum a.0 (omega (arith, a.1, b.1)) c.loop-n.invariant.sum
