@@ -24,7 +24,8 @@ impl<S: Slots> Laned<S> {
     ghost use Rattle.medium.specs.Sound.{fresh_of, Fresh};
     ghost use Rattle.lane.specs.Laned.{meaning_of};
 
-    // The fresh medium of a plan, in a store that serves the plan's lanes: whoever made the store for the plan knows that it does.
+    // The fresh medium of a plan, in a store that serves the plan's lanes: whoever made the store for the plan knows
+    // that it does.
     pub fn new(plan: Plan, slots: S) -> Laned<S>
         requires { ∥ S.serves slots plan.lanes.all ∥₁ }
         ensures is { meaning_of result ≡ fresh_of plan.capacities }

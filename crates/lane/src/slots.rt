@@ -9,7 +9,8 @@ use crate::lane::Lane;
 use crate::lanes::Lanes;
 use base::file::File;
 
-// A store of blocks by their slots. Each call asks that the store serves the lanes: they lie beside it, so no type can say so.
+// A store of blocks by their slots. Each call asks that the store serves the lanes: they lie beside it, so no type can
+// say so.
 pub trait Slots {
     // The block in a slot.
     ghost cell: { Self → ℕ → List ℕ };
@@ -17,7 +18,8 @@ pub trait Slots {
     // What the store keeps true while it holds the blocks of these lanes.
     ghost serves: { Self → List Lane → Type 0 };
 
-    // Gives a file a lane with one number more, and stores a block in the slot of that number. That there is room the longer lane shows.
+    // Gives a file a lane with one number more, and stores a block in the slot of that number. That there is room the
+    // longer lane shows.
     fn fill(&mut self, lanes: &mut Lanes, file: File, longer: Lane, block: &[u8; 512])
         requires serves { ∥ serves self.old lanes.old.all ∥₁ }
         requires longer { Grows (lane_of lanes.old.all (index_of file)) longer }
@@ -26,7 +28,8 @@ pub trait Slots {
         ensures filled { cell self.new (slot longer (longer.count - 1)) ≡ block.now }
         ensures others { Stays lanes.old.all (cell self.old) (cell self.new) };
 
-    // Gives a file a lane with fewer numbers, and lets go of the blocks that it no longer has. Whoever narrows a lane knows that it is narrower.
+    // Gives a file a lane with fewer numbers, and lets go of the blocks that it no longer has. Whoever narrows a lane
+    // knows that it is narrower.
     fn narrow(&mut self, lanes: &mut Lanes, file: File, left: Lane)
         requires serves { ∥ serves self.old lanes.old.all ∥₁ }
         requires left { Narrows (lane_of lanes.old.all (index_of file)) left }

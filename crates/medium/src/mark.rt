@@ -1,7 +1,7 @@
 // The mark: what a medium keeps through every cut.
 
-// An epoch, and where each file's live blocks start and end. Starts and ends are two lists, since the rules replace each as a whole and from
-// another source: starts by the counts noted when a checkpoint began, ends by synced counts.
+// An epoch, and where each file's live blocks start and end. Starts and ends are two lists, since the rules replace
+// each as a whole and from another source: starts by the counts noted when a checkpoint began, ends by synced counts.
 #[derive(Clone, Copy, Debug)]
 pub struct Mark {
     pub epoch: u32,

@@ -10,8 +10,8 @@ mod slots;
 
 pub use make::{make_pool, plan_pool};
 
-// Slots that are numbers of pages. The table holds the number of the page in each slot, and behind the slots a stack of the spare pages,
-// `spare` of them: it is lent memory of a fixed size, so the stack is not a Vec.
+// Slots that are numbers of pages. The table holds the number of the page in each slot, and behind the slots a stack of
+// the spare pages, `spare` of them: it is lent memory of a fixed size, so the stack is not a Vec.
 #[derive(Drop)]
 pub struct Pages<'a> {
     pages: &'a mut [[u8; 512]],

@@ -21,8 +21,8 @@ pub fn plan_pool(capacities: &[u32; 8], pages: usize, numbers: usize) -> Result<
     plan_of(capacities, pages.min(numbers / 2))
 }
 
-// An empty pool over the pages; it cannot fail. That pages and table are as long as the plan takes, whoever passed their lengths to `plan_pool`
-// knows: the plan and the memory are three values, so the fact is asked of all.
+// An empty pool over the pages; it cannot fail. That pages and table are as long as the plan takes, whoever passed
+// their lengths to `plan_pool` knows: the plan and the memory are three values, so the fact is asked of all.
 pub fn make_pool<'a>(plan: Plan, pages: &'a mut [[u8; 512]], table: &'a mut [u32]) -> Pool<'a>
     requires paged { plan.total ≤ length pages.old }
     requires tabled { plan.total + plan.total ≤ length table.old }

@@ -2,8 +2,9 @@
 use base::key::Key;
 use base::refusal::Refusal;
 
-// One call of a store. A worker stands for the ticket that it has; a held result goes by the number that install answered.
-// Workers, loggers, files and parts are plain numbers: a call with a number that is too large is a call too, and refused.
+// One call of a store. A worker stands for the ticket that it has; a held result goes by the number that install
+// answered. Workers, loggers, files and parts are plain numbers: a call with a number that is too large is a call too,
+// and refused.
 #[derive(Clone, Copy, PartialEq, Eq, Debug)]
 pub enum Call {
     Begin { worker: u8 },

@@ -1,4 +1,5 @@
-// Laws over all rules. Each is the clause of a function that does nothing else, since a clause is what a check wants proved.
+// Laws over all rules. Each is the clause of a function that does nothing else, since a clause is what a check wants
+// proved.
 ghost use Rattle.rules.specs.Laws.{RefusalsChangeNothing, OneChangeAtMost, EitherOrder, OnlyLargerReplaces, EpochNeverFalls, OpensSo, MarkedAsAnswered};
 
 // A refused call leaves the store, its medium and its results as they were.

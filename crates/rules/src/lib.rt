@@ -1,4 +1,5 @@
-// The rules of the store, as definitions; here the calls and answers that a history is made of, and what is shown of the rules.
+// The rules of the store, as definitions; here the calls and answers that a history is made of, and what is shown of
+// the rules.
 #![tactic(auto)]
 
 pub mod call;
