@@ -152,13 +152,9 @@ fn cuts<M: Cuttable>(rt: &impl Abort, m: &mut M) -> Result<(), Fail> {
 #[test]
 fn ring_is_cut(rt: HostRuntime) -> Result<(), Fail> {
     let mut cells = [[0u8; 512]; 24];
-    match plan_of(&[3; 8], cells.len()) {
-        Ok(plan) => {
-            let mut ring = make_ring(plan, &mut cells);
-            cuts(&rt, &mut ring)
-        }
-        Err(e) => Err(Fail::new("the memory suffices")),
-    }
+    let plan = plan_of(&[3; 8], cells.len())?;
+    let mut ring = make_ring(plan, &mut cells);
+    cuts(&rt, &mut ring)
 }
 
 #[test]

@@ -41,7 +41,8 @@ impl<'a> Slots for Pages<'a> {
         lanes.replace(file, longer);
     }
 
-    // Numbers go one by one, those at the front first, since each gives its page back.
+    // Numbers go one by one, those at the front first, since each gives its page back. The file's lane says which is
+    // next, so these are loops over the lane: a `for` over numbers would be a second count beside it.
     fn narrow(&mut self, lanes: &mut Lanes, file: File, left: Lane) {
         'front: while lanes.of(file).first < left.first {
             let mut lane = lanes.of(file);
