@@ -1,7 +1,9 @@
 // Filling a draft, and making a block of it.
-ghost use Rattle.std.specs.Prelude.{◌≡◌, ◌+◌, ◌-◌, ◌≤◌, true, [], ◌++◌, length, ◌==◌};
+ghost use Rattle.std.specs.Prelude.{◌≡◌, ◌+◌, ◌-◌, ◌≤◌, true, [], ◌++◌, length, take, ◌==◌};
+ghost use Rattle.base.specs.Bytes.{be};
 ghost use Rattle.block.specs.Drafts.{written, push_answer, push_after, seal_answer};
 ghost use Rattle.block.specs.Fitting.{fits, room};
+ghost use Rattle.block.specs.Fletcher.{fletcher16 as sum_of};
 ghost use Rattle.block.specs.Filling.{GoesIn};
 ghost use Rattle.block.specs.Format.{header, key_bytes, bytes_of, size_of, sealed};
 
@@ -122,11 +124,17 @@ impl Draft {
     {
         let mut block = self.bytes;
         block[0..COMMANDS].copy_from_slice(&head(at, self.used as u16));
-        // The sum goes over every byte before it, padding included.
-        let sum = fletcher16(&block[0..SUM]);
-        block[SUM..BLOCK].copy_from_slice(&sum.to_be_bytes());
+        let sum = sum_bytes(&block);
+        block[SUM..BLOCK].copy_from_slice(&sum);
         block
     }
+}
+
+// The sum goes over every byte before it, padding included.
+fn sum_bytes(block: &[u8; 512]) -> [u8; 2]
+    ensures { result ≡ be 2 (sum_of (take 510 block.now)) }
+{
+    fletcher16(&block[0..SUM]).to_be_bytes()
 }
 
 fn head(at: Address, n: u16) -> [u8; 8]
