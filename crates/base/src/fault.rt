@@ -13,8 +13,8 @@ pub enum Layer {
     Replay,
 }
 
-// Where a fault arose, each number 0 if there is none: the byte is the first of the wrong field, command or
-// padding, the epoch the one last read in the block.
+// Where a fault arose: the byte is the first of the wrong field, command or padding, the epoch the one last read in
+// the block. Each number is 0 if there is none, and no option: so the store's rules give a fault its numbers.
 #[derive(Clone, Copy, PartialEq, Eq, Debug)]
 pub struct Place {
     pub file: u8,

@@ -47,7 +47,7 @@ impl File {
         ]
     }
 
-    // The file's place among the eight.
+    // The file's place among the eight. A method and no `usize::from`: it stands in brackets behind a list.
     pub fn index(self) -> usize
         ensures { result ≡ index_of self }
     {

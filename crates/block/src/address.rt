@@ -7,7 +7,7 @@ use base::fault::{BlockFault, Place};
 use base::file::File;
 use base::refusal::Refusal;
 
-// A file, and the number of a block in it.
+// A file, and the number of a block in it. Any number may be asked for or stand in a block, so the file is no `File`.
 #[derive(Clone, Copy, PartialEq, Eq, Debug)]
 pub struct Address {
     pub file: u8,

@@ -3,6 +3,7 @@ ghost use Rattle.std.specs.Prelude.{◌+◌, ◌≤◌, length};
 
 mod parse;
 
+// The five cases stand here by the parts that spell them, and at `Entry` by their values: the store's rules want both.
 #[derive(Clone, Copy)]
 pub enum Command<'a> {
     Txn {

@@ -13,7 +13,8 @@ pub enum Entry {
     Gone { tid: u64, key: Key },
 }
 
-// The first byte of each command.
+// The first byte of each command. Constants and no enum: each is written and read in one place, beside its command, and
+// a block may hold any other byte.
 pub const TXN: u8 = 0x01;
 
 pub const PUT: u8 = 0x02;

@@ -30,6 +30,11 @@ impl Tally {
     }
 }
 
+// All blocks are of one file.
+fn address(number: u32) -> Address {
+    Address { file: 0, number }
+}
+
 // The commands of a full block: 2 transactions, 11 writes and 11 erases, 502 bytes.
 fn full_log(heap: Global) -> Result<Vec<Entry>, AllocError> {
     let mut entries = Vec::new(heap);
@@ -67,7 +72,8 @@ fn tally_of<F: Fn(u32) -> Option<u64>>(rounds: u32, step: F) -> Tally
     tally
 }
 
-// The sum of a block, which all its bytes have a part in; 0 where there is no block.
+// The sum of a block, which all its bytes have a part in; 0 where there is no block, as in the program that this one
+// is held to.
 fn sum_of(written: Result<[u8; 512], WriteError>) -> u64 {
     written.map_or(
         0,
@@ -77,7 +83,7 @@ fn sum_of(written: Result<[u8; 512], WriteError>) -> u64 {
 
 // The writes of a block, by the codes of their keys; 0 where the block is not read.
 fn codes_of(block: &[u8; 512], number: u32) -> u64 {
-    let Ok(commands) = read(block, Address { file: 0, number }, 1_000_000) else {
+    let Ok(commands) = read(block, address(number), 1_000_000) else {
         return 0;
     };
     let mut all = 0u64;
@@ -92,7 +98,7 @@ fn codes_of(block: &[u8; 512], number: u32) -> u64 {
 fn some_blocks(heap: Global, entries: &[Entry]) -> Result<Vec<[u8; 512]>, AllocError> {
     let mut blocks = Vec::new(heap);
     for number in 0..BLOCKS {
-        if let Ok(block) = write_block(Address { file: 0, number }, entries) {
+        if let Ok(block) = write_block(address(number), entries) {
             blocks.push(block)?;
         }
     }
@@ -133,17 +139,17 @@ fn run(rt: &HostRuntime) -> anyhow::Result<()> {
     let blocks = some_blocks(heap, entries.as_slice())?;
     for line in rt.lines(heap) {
         let tally = match task_of(line?.as_str())? {
-            Task::Write(rounds) => tally_of(
-                rounds,
-                |n| Some(sum_of(write_block(Address { file: 0, number: n }, &entries))),
-            ),
+            Task::Write(rounds) => tally_of(rounds, |n| {
+                let block = write_block(address(n), &entries);
+                Some(sum_of(block))
+            }),
             Task::Read(rounds) => tally_of(rounds, |n| {
                 let number = n % BLOCKS;
                 let block = blocks.get(number as usize)?;
                 Some(codes_of(block, number))
             }),
             Task::Bytes(rounds) => tally_of(rounds, |n| {
-                write_block(Address { file: 0, number: n }, &entries)
+                write_block(address(n), &entries)
                     .ok()
                     .map(|block| bytes_digest(&block))
             }),

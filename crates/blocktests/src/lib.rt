@@ -26,6 +26,7 @@ pub fn damage(block: [u8; 512], at: usize, byte: u8) -> [u8; 512]
     ensures { result ≡ slice_set block at byte }
 {
     let mut wrong = block;
+    // A test of the place and no `get_mut`: tried, and the check left open what then stands behind the reference.
     if at < wrong.len() {
         wrong[at] = byte;
     }

@@ -124,13 +124,8 @@ fn is_refused(
         file: wanted.at.file,
         number: wanted.at.block,
     };
-    match read(block, at, marked) {
-        Ok(_) => Err(Fail::new("a wrong block is read")),
-        Err(found) => {
-            assert_eq!(rt; found, wanted);
-            Ok(())
-        },
-    }
+    assert_eq!(rt; read(block, at, marked).err(), Some(wanted));
+    Ok(())
 }
 
 // A block of these commands, whatever they are.

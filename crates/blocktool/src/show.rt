@@ -12,6 +12,7 @@ pub(crate) struct Shown<T>(pub(crate) T);
 impl fmt::Display for Shown<Key> {
     fn fmt<W: fmt::Write>(&self, f: &mut fmt::Formatter<W>) -> fmt::Result {
         let Key { kind, code } = self.0;
+        // Kinds are open, and go by their numbers: this tool knows the names of two.
         match kind {
             0 => write!(f, "slot {code}"),
             1 => {

@@ -9,8 +9,8 @@ use crate::lane::Lane;
 use crate::lanes::Lanes;
 use base::file::File;
 
-// A store of blocks by their slots. Each call asks that the store serves the lanes: they lie beside it, so no type can
-// say so.
+// A store of blocks by their slots. Each call asks that the store serves the lanes: store and lanes are two values
+// here, so that one kind of lanes goes with every store, and `Laned` keeps it true of the two.
 pub trait Slots {
     // The block in a slot.
     ghost cell: { Self → ℕ → List ℕ };

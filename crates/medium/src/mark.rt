@@ -2,7 +2,7 @@
 
 // An epoch, and where each file's live blocks start and end. Starts and ends are two lists, since the rules replace
 // each as a whole and from another source: starts by the counts noted when a checkpoint began, ends by synced counts.
-#[derive(Clone, Copy, Debug)]
+#[derive(Clone, Copy, PartialEq, Eq, Debug)]
 pub struct Mark {
     pub epoch: u32,
     pub starts: [u32; 8],

@@ -7,6 +7,8 @@ ghost use Rattle.medium.specs.Steps.{append_answer, append_after, sync_answer, s
 use crate::mark::Mark;
 use base::refusal::Refusal;
 
+// Files go by plain numbers: a call with one that is too large is a call too, and refused. That retire and set-mark
+// answer 0 is a rule of the store.
 pub trait Medium {
     ghost meaning: { Self → MediumModel };
 

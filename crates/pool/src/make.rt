@@ -1,5 +1,5 @@
 // The check of the memory for a pool, and the making after it.
-ghost use Rattle.std.specs.Prelude.{◌≡◌, ◌+◌, ◌/◌, ◌≤◌, min, true, false, length, sum, slice_index, EachIndex, OnOk, OnErr, IfOk, IfErr};
+ghost use Rattle.std.specs.Prelude.{◌≡◌, ◌+◌, ◌/◌, ◌≤◌, min, true, false, length, slice_index, EachIndex, OnOk, OnErr, IfOk, IfErr};
 ghost use Rattle.lane.specs.Fits.{plan_fits};
 ghost use Rattle.medium.specs.Sound.{fresh_of, Fresh};
 ghost use Rattle.pool.specs.Meaning.{meaning_of};

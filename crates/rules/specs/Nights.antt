@@ -1,4 +1,5 @@
--- A night: a list of calls on a store opened on a fresh medium, and where the power failed. Words of the survival theorem, which is still to be shown.
+-- A night: a list of calls on a store opened on a fresh medium, and where the power failed. Words of the survival
+-- theorem, which is still to be shown.
 use Rattle.std.specs.Prelude.{◌≡◌, ℕ, true, cond, List, [], ◌∷◌, ◌++◌, Some, None, Ok, Err, Option, Result, nat_lt}
 use Rattle.base.specs.Faults.{ReplayFault}
 use Rattle.medium.specs.Cuts.{Cut}

@@ -1,6 +1,6 @@
 // How a group is made from its text, and its code.
 ghost use Rattle.std.specs.Prelude.{◌≡◌, ◌≤◌, length};
-ghost use Rattle.std.proofs.Common.{ap, rules, arith};
+ghost use Rattle.std.proofs.Common.{ap, rules};
 ghost use Rattle.base.specs.Bytes.{Bytes};
 ghost use Rattle.base.specs.Codes.{group_text, padded, group_code};
 ghost use Rattle.base.specs.Groups.{text_of, texts, named};

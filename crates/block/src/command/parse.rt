@@ -1,7 +1,5 @@
 // From bytes to commands.
 ghost use Rattle.std.specs.Prelude.{◌≡◌, ◌↔◌, ◌+◌, ◌<◌, ◌≤◌, length, take, drop, IfSome, IsSome};
-ghost use Rattle.std.specs.Int.{w64};
-ghost use Rattle.std.proofs.Common.{to_z};
 ghost use Rattle.base.specs.Bytes.{be_at};
 ghost use Rattle.std.specs.Option.{option_map};
 ghost use Rattle.block.specs.Commands.{value_of, place_of, place};
