@@ -123,7 +123,8 @@ pub(crate) fn check_entry(
     if !is_placed(at.file, way.opened, what) {
         return Err(at.fault(Refusal::MisplacedCommand, way.at, way.epoch));
     }
-    // A match and no `map_or`: that the sum of the two places fits is shown here, and a closure would have to ask for it.
+    // A match and no `map_or`: that the sum of the two places fits is shown here, and a closure would have to ask for
+    // it.
     match wrong_field(marked, what) {
         None => Ok(()),
         Some(i) => Err(at.fault(

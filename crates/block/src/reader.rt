@@ -79,7 +79,8 @@ fn nonzero(at: u16, padding: &[u8]) -> Option<u16>
 }
 
 // The number of command bytes, once the header is right. That it is at most 502 is said where it is made and asked by
-// the two checks after it: a type for it would be made and taken apart within `read`, as would one for block and address.
+// the two checks after it: a type for it would be made and taken apart within `read`, as would one for block and
+// address.
 fn check_header(block: &[u8; 512], at: Address) -> Result<usize, BlockFault>
     ensures answer { result ≡ passed (number_at 2 2 block.now) (header_fault at.file at.number block.now) }
     ensures room { IfOk result (λ n. n ≤ 502) }
