@@ -18,23 +18,18 @@ loop-front-preserved c =
     let l = lane_of ls.all f in
     let e = ap (λ z. lane_of z f) x.lanes ∙ get_or-set_same ls.all f _ no_lane lt in
     let same = c.of-lane.ensures in
-    let base : (lane_of c.free.new.lanes.all f).base ≡ l.base = ap (λ (z : Lane). z.base) e ∙ ap (λ (z : Lane). z.base) same in
-    let capacity : (lane_of c.free.new.lanes.all f).capacity ≡ l.capacity = ap (λ (z : Lane). z.capacity) e ∙ ap (λ (z : Lane). z.capacity) same in
-    let first : (lane_of c.free.new.lanes.all f).first ≡ l.first + 1 = ap (λ (z : Lane). z.first) e ∙ ap (λ (z : Lane). z.first + 1) same in
-    let count : (lane_of c.free.new.lanes.all f).count ≡ l.count = ap (λ (z : Lane). z.count) e ∙ ap (λ (z : Lane). z.count) same in
-    let synced : (lane_of c.free.new.lanes.all f).synced ≡ l.synced = ap (λ (z : Lane). z.synced) e ∙ ap (λ (z : Lane). z.synced) same in
     record {
       serves = x.serves;
       pages = x.pages ∙ inv.pages;
       total = x.total ∙ inv.total;
       table = λ s h. x.table s (omega (arith, h, x.total)) ∙ inv.table s (omega (arith, h, x.total));
       lanes = ap (λ z. set z f c.args.left) x.lanes ∙ set-set ls.all f _ c.args.left ∙ inv.lanes;
-      place = record { base = inv.place.base ∙ sym base; capacity = inv.place.capacity ∙ sym capacity };
-      first = omega (arith, first, inv.first);
+      place = record { base = inv.place.base ∙ sym (ap (λ (z : Lane). z.base) e ∙ ap (λ (z : Lane). z.base) same); capacity = inv.place.capacity ∙ sym (ap (λ (z : Lane). z.capacity) e ∙ ap (λ (z : Lane). z.capacity) same) };
+      first = omega (arith, ap (λ (z : Lane). z.first) e, ap (λ (z : Lane). z.first) same, inv.first);
       high = omega (arith, c.loop-front-test.true);
-      dropped = omega (arith, synced, inv.dropped);
-      lasting = omega (arith, synced, inv.lasting);
-      count = omega (arith, count, inv.count);
+      dropped = omega (arith, ap (λ (z : Lane). z.synced) e, ap (λ (z : Lane). z.synced) same, inv.dropped);
+      lasting = omega (arith, ap (λ (z : Lane). z.synced) e, ap (λ (z : Lane). z.synced) same, inv.lasting);
+      count = omega (arith, ap (λ (z : Lane). z.count) e, ap (λ (z : Lane). z.count) same, inv.count);
     }
 
 pub loop-back-preserved : goal.loop-back-preserved
@@ -47,21 +42,16 @@ loop-back-preserved c =
     let l = lane_of ls.all f in
     let e = ap (λ z. lane_of z f) x.lanes ∙ get_or-set_same ls.all f _ no_lane lt in
     let same = c.of-lane-in-loop-back.ensures in
-    let base : (lane_of c.free-in-loop-back.new.lanes.all f).base ≡ l.base = ap (λ (z : Lane). z.base) e ∙ ap (λ (z : Lane). z.base) same in
-    let capacity : (lane_of c.free-in-loop-back.new.lanes.all f).capacity ≡ l.capacity = ap (λ (z : Lane). z.capacity) e ∙ ap (λ (z : Lane). z.capacity) same in
-    let first : (lane_of c.free-in-loop-back.new.lanes.all f).first ≡ l.first = ap (λ (z : Lane). z.first) e ∙ ap (λ (z : Lane). z.first) same in
-    let count : (lane_of c.free-in-loop-back.new.lanes.all f).count ≡ l.count - 1 = ap (λ (z : Lane). z.count) e ∙ ap (λ (z : Lane). z.count - 1) same in
-    let synced : (lane_of c.free-in-loop-back.new.lanes.all f).synced ≡ l.synced = ap (λ (z : Lane). z.synced) e ∙ ap (λ (z : Lane). z.synced) same in
     record {
       serves = x.serves;
       pages = x.pages ∙ inv.pages;
       total = x.total ∙ inv.total;
       table = λ s h. x.table s (omega (arith, h, x.total)) ∙ inv.table s (omega (arith, h, x.total));
       lanes = ap (λ z. set z f c.args.left) x.lanes ∙ set-set ls.all f _ c.args.left ∙ inv.lanes;
-      place = record { base = inv.place.base ∙ sym base; capacity = inv.place.capacity ∙ sym capacity };
-      first = first ∙ inv.first;
-      lasting = omega (arith, synced, inv.lasting);
-      count = omega (arith, count, inv.count);
+      place = record { base = inv.place.base ∙ sym (ap (λ (z : Lane). z.base) e ∙ ap (λ (z : Lane). z.base) same); capacity = inv.place.capacity ∙ sym (ap (λ (z : Lane). z.capacity) e ∙ ap (λ (z : Lane). z.capacity) same) };
+      first = ap (λ (z : Lane). z.first) e ∙ ap (λ (z : Lane). z.first) same ∙ inv.first;
+      lasting = omega (arith, ap (λ (z : Lane). z.synced) e, ap (λ (z : Lane). z.synced) same, inv.lasting);
+      count = omega (arith, ap (λ (z : Lane). z.count) e, ap (λ (z : Lane). z.count) same, inv.count);
       high = omega (arith, c.loop-back-test.true);
     }
 
