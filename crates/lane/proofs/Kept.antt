@@ -4,7 +4,7 @@ use lib.ListN.{length-map}
 use lib.Seq.{map-set}
 use Rattle.std.specs.List.{range_with_len}
 use Rattle.std.proofs.lemmas.List.FromFn.{length-map-range_with_len, get_or-map-range_with_len, map-range_with_len_more}
-use Rattle.std.proofs.lemmas.List.{get_or_default, get_or-map, same_lists, length-drop, get_or-drop, length-take-le, get_or-take}
+use Rattle.std.proofs.lemmas.List.{get_or-map, same_lists, length-drop, get_or-drop, length-take-le, get_or-take}
 use Rattle.std.proofs.lemmas.Bool.{cases_lt, cases_eq}
 use Rattle.medium.specs.declared.mark.Mark.{Mark}
 use Rattle.medium.specs.Model.{FileModel, file_of, with_file, count_of}

@@ -52,6 +52,7 @@ pub fn plan_of(capacities: &[u32; 8], slots: usize) -> Result<Plan, Refusal>
 {
     let mut all = [empty_lane(0, 1); 8];
     let mut next: u32 = 0;
+    // By index: a loop over `all.iter_mut().zip(..)` was tried, and of the lanes that it wrote no proof can speak.
     for (i, &capacity) in capacities.iter().enumerate() {
         if capacity == 0 || capacity > MAX_CAPACITY {
             return Err(Refusal::BadMemory);

@@ -41,19 +41,17 @@ impl<'a> Slots for Pages<'a> {
         lanes.replace(file, longer);
     }
 
-    // Numbers go one by one, those at the front first, since each gives its page back. The file's lane says which is
-    // next, so these are loops over the lane: a `for` over numbers would be a second count beside it.
+    // Numbers go one by one, those at the front first, since each gives its page back.
     fn narrow(&mut self, lanes: &mut Lanes, file: File, left: Lane) {
-        'front: while lanes.of(file).first < left.first {
+        for front in lanes.of(file).first..left.first {
             let mut lane = lanes.of(file);
-            let number = lane.first;
             lane.first += 1;
-            self.free(lanes, file, number, lane);
+            self.free(lanes, file, front, lane);
         }
-        'back: while left.count < lanes.of(file).count {
+        for back in (left.count..lanes.of(file).count).rev() {
             let mut lane = lanes.of(file);
             lane.count -= 1;
-            self.free(lanes, file, lane.count, lane);
+            self.free(lanes, file, back, lane);
         }
         lanes.replace(file, left);
     }

@@ -49,10 +49,9 @@ impl<S: Slots> Laned<S> {
         ensures after { meaning_of self.new ≡ cut_after (meaning_of self.old) shown.now tails.now }
         ensures allowed { Cut (meaning_of self.old) (meaning_of self.new) }
     {
-        let files = File::all();
         let mut rest = tails;
-        for (i, &many) in shown.iter().enumerate() {
-            self.cut_file(files[i], many, rest);
+        for (&file, &many) in File::all().iter().zip(shown) {
+            self.cut_file(file, many, rest);
             rest = &rest[(many as usize).min(rest.len())..];
         }
     }
