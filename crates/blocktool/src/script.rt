@@ -10,12 +10,12 @@ use std::num::ParseIntError;
 use thiserror::Error;
 
 // What is wrong with a line.
-#[derive(Debug, Drop, Error)]
+#[derive(Clone, Copy, Debug, Error)]
 pub enum Mistake {
     #[error("no such command, or too few or too many words")]
     Words,
     #[error("not a number, or one out of range")]
-    Number(#[from] ParseIntError),
+    Number,
     #[error("a key is `slot NUMBER` or `group TEXT`")]
     Kind,
     #[error("a group has 1 to 16 bytes")]
@@ -26,6 +26,13 @@ pub enum Mistake {
     BlockOnce,
     #[error("no memory")]
     Memory(#[from(alloc)] AllocError),
+}
+
+// Without the error itself, which is no `Copy`.
+impl From<ParseIntError> for Mistake {
+    fn from(_e: ParseIntError) -> Mistake {
+        Mistake::Number
+    }
 }
 
 #[derive(Clone, Copy)]

@@ -63,7 +63,7 @@ module _ (ls : List Lane) (total spare : ℕ) (table : List ℕ) (eight : length
     next = slot g (g.count - 1)
 
     pub some : 0 < spare
-    some = some_spare ls f total spare eight low s.counted g apart s.inside x
+    some = some_spare ls f total spare eight low s.counted apart s.inside (omega (arith, x.first, x.count, x.capacity, g.room))
 
     pub top_low : top < total
     top_low = let z = some in s.ranged (total + spare - 1) (inr (omega arith, omega arith))

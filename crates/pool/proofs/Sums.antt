@@ -29,6 +29,17 @@ fit ls n eight apart inside =
     let all = ap (sum_by (λ (l : Lane). l.capacity)) (take_all 8 ls (omega arith)) in
     omega (arith, h, more, all, inside 7 no_lane (omega arith))
 
+-- lanes of which one has room use fewer slots than there are
+below : (ls : List Lane) (f : ℕ) → f < length ls → (lane_of ls f).count < (lane_of ls f).first + (lane_of ls f).capacity → used ls < capacities ls
+unfolding capacities
+below [] f lt room = absurd (omega arith)
+below (l ∷ ls) zero lt room =
+    let rest = sum_by-le-sum_by (λ (z : Lane). z.count - z.first) (λ (z : Lane). z.capacity) ls (λ z. omega (arith, z.room)) in
+    omega (arith, rest, sum_by-cons (λ (z : Lane). z.count - z.first) l ls, sum_by-cons (λ (z : Lane). z.capacity) l ls, l.some)
+below (l ∷ ls) (suc f) lt room =
+    let rest = below ls f (omega arith) room in
+    omega (arith, rest, sum_by-cons (λ (z : Lane). z.count - z.first) l ls, sum_by-cons (λ (z : Lane). z.capacity) l ls, l.room)
+
 module _ (ls : List Lane) (f total spare : ℕ) (eight : length ls ≡ 8) (low : f < 8) (counted : spare + used ls ≡ total) where
   abbrev l : Lane
   l = lane_of ls f
@@ -37,13 +48,8 @@ module _ (ls : List Lane) (f total spare : ℕ) (eight : length ls ≡ 8) (low :
   used_set g = sum_by-set (λ (x : Lane). x.count - x.first) ls f g no_lane (omega arith)
 
   -- a file with room leaves a spare page
-  pub some_spare : (g : Lane) → Apart ls → Inside ls total → Grows l g → 0 < spare
-  unfolding capacities
-  some_spare g apart inside x =
-      let a = used_set g in
-      let b = sum_by-set (λ (z : Lane). z.capacity) ls f g no_lane (omega arith) in
-      let c = sum_by-le-sum_by (λ (z : Lane). z.count - z.first) (λ (z : Lane). z.capacity) (set ls f g) (λ z. omega (arith, z.room)) in
-      omega (arith, a, b, c, fit ls total eight apart inside, x.first, x.count, x.capacity, l.dropped, l.lasting)
+  pub some_spare : Apart ls → Inside ls total → l.count < l.first + l.capacity → 0 < spare
+  some_spare apart inside room = omega (arith, below ls f (omega arith) room, fit ls total eight apart inside)
 
   -- a file with a block leaves a place for a spare page
   pub spare_place : l.first < l.count → spare < total

@@ -5,17 +5,33 @@ use Rattle.std.proofs.lemmas.Grind.{elements}
 use Rattle.std.proofs.lemmas.List.Elements.{All-nil, All-cons, All-head, All-tail, All-replicate, All-weaker}
 use Rattle.std.proofs.lemmas.List.{get_or_past}
 use Rattle.base.specs.declared.refusal.Refusal.{Refusal}
+use Rattle.medium.specs.Model.{MediumModel}
+use Rattle.medium.specs.Steps.{append_after, sync_after, retire_after}
 use Rattle.medium.specs.declared.mark.Mark.{Mark}
 use Rattle.table.specs.declared.record.Record.{Record}
 use Rattle.rules.proofs.Refusing.{same_marks, persist_marks}
 use Rattle.rules.specs.Calls.{up_to_3, install_call, rule, played}
 use Rattle.rules.specs.Checkpoints.{step_rule}
 use Rattle.rules.specs.Laws.{Above, LiesBefore, Pending, EpochNeverFalls, OpensSo}
-use Rattle.rules.specs.Logging.{held_epoch, advance_rule, spill_rule, least_of_workers, least_of_loggers, least_or, persistent}
-use Rattle.rules.specs.State.{Worker, Logger, State, no_worker, empty_logger, worker_of, logger_at, logger_of, least, least_of}
+use Rattle.rules.specs.Logging.{held_epoch, advance_rule, spill_rule, least_of_workers, least_of_loggers, least_or, persistent, new_mark}
+use Rattle.rules.specs.State.{Worker, Logger, Checkpoint, State, no_worker, empty_logger, worker_of, logger_at, logger_of, least, least_of}
 use Rattle.rules.specs.Transactions.{Installed, begin_rule, read_rule, change_rule, lock_rule, validate_rule, install_rule, abandon_rule}
 use Rattle.rules.specs.declared.call.Call.TheVariants as call
 use Rattle.rules.specs.declared.call.Call.{Call}
+
+-- no call of the medium but set-mark changes the mark
+pub mark_append : (m : MediumModel) (f : ℕ) (b : List ℕ) → (append_after m f b).mark ≡ m.mark
+mark_append m f b = grind arith
+
+pub mark_sync : (m : MediumModel) (f : ℕ) → (sync_after m f).mark ≡ m.mark
+mark_sync m f = grind arith
+
+pub mark_retire : (m : MediumModel) (f n : ℕ) → (retire_after m f n).mark ≡ m.mark
+mark_retire m f n = grind arith
+
+-- a persist marks the epoch that it finds
+pub new_epoch : (s : State) (n : ℕ) (k : Checkpoint) → (new_mark n s.medium k).epoch ≡ n
+new_epoch s n k = grind arith
 
 -- what holds of all and of the default holds of any item
 any_item : {A : Type 0} (P : A → Type 0) (xs : List A) (i : ℕ) (d : A) → All P xs → P d → P (get_or xs i d)
@@ -60,7 +76,7 @@ above_or : (d e : ℕ) (o : Option ℕ) → d < least_or e o ↔ (d < e × Above
 above_or d e o = grind arith
 
 -- an epoch lies before all that is under way exactly if it lies before the least of it
-before_least : (d e : ℕ) (ws : List Worker) (gs : List Logger) → LiesBefore d e ws gs ↔ d < least_or e (least (least_of_workers ws) (least_of_loggers gs))
+pub before_least : (d e : ℕ) (ws : List Worker) (gs : List Logger) → LiesBefore d e ws gs ↔ d < least_or e (least (least_of_workers ws) (least_of_loggers gs))
 before_least d e ws gs =
     let all = above_or d e (least (least_of_workers ws) (least_of_loggers gs)) in
     let both = above_least d (least_of_workers ws) (least_of_loggers gs) in
@@ -74,11 +90,11 @@ before_least d e ws gs =
     )
 
 -- a persist finds an epoch that is no lower, and itself lies before all that is under way
-persisted : (d e : ℕ) (ws : List Worker) (gs : List Logger) → LiesBefore d e ws gs → (d ≤ persistent e ws gs) × LiesBefore (persistent e ws gs) e ws gs
+pub persisted : (d e : ℕ) (ws : List Worker) (gs : List Logger) → LiesBefore d e ws gs → (d ≤ persistent e ws gs) × LiesBefore (persistent e ws gs) e ws gs
 unfolding persistent
 persisted d e ws gs h = let l = (before_least d e ws gs).0 h in (omega arith, (before_least _ e ws gs).1 (omega arith))
 
-onward : (s : State) (c : Call) → Pending s → (s.medium.mark.epoch ≤ (rule s c).state.medium.mark.epoch) × Pending (rule s c).state
+pub onward : (s : State) (c : Call) → Pending s → (s.medium.mark.epoch ≤ (rule s c).state.medium.mark.epoch) × Pending (rule s c).state
 onward s call.Persist h =
     let p = persisted s.medium.mark.epoch s.epoch s.workers s.loggers h in
     rw (persist_marks s) (p.0, keeps _ s call.Persist p.1)

@@ -20,31 +20,31 @@ a_night : Type 0
 unfolding walk read_answer sums fletcher16 sealed entries before same_key behind look put take_out rule played history start_rule step_rule close_rule advance_rule spill_rule persistent release_rule replays start_recovery replay_rule finish_rule story_from serial after_run begin_rule read_rule change_rule lock_rule next_tid validate_rule install_rule
 a_night = SmallNights
 
-survives : Survives
+pub survives : Survives
 unfolding a_night
 survives = record { persisted = refl; released = refl; there = refl; serial = refl }
 
-is_lost : IsLost
+pub is_lost : IsLost
 unfolding a_night
 is_lost = record { persisted = refl; withheld = refl; gone = refl; serial = refl }
 
-log_has_it : LogHasIt
+pub log_has_it : LogHasIt
 unfolding a_night
 log_has_it = record { from_part = refl; from_log = refl; serial = refl }
 
-lock_order : LockOrder
+pub lock_order : LockOrder
 unfolding a_night
 lock_order = record { second = refl; first = refl; one = refl; other = refl }
 
-holds_back : HoldsBack
+pub holds_back : HoldsBack
 unfolding a_night
 holds_back = record { persisted = refl; refused = refl; nothing_yet = refl }
 
-stays_deleted : StaysDeleted
+pub stays_deleted : StaysDeleted
 unfolding a_night
 stays_deleted = record { newer = refl; in_force = refl; absent = refl; serial = refl }
 
-read_only : ReadOnly
+pub read_only : ReadOnly
 unfolding a_night
 read_only = record { absent = refl; tid = refl; released = refl }
 

@@ -1,8 +1,9 @@
 -- What is in a sorted list, and what holds of all that is.
-use Rattle.std.proofs.Common.{◌≡◌, ℕ, zero, suc, ◌<◌, true, List, [], ◌∷◌, length, get_or, Some, refl, inl, inr, arith}
-use Rattle.std.specs.List.{slice_get, Contains, AllByRecursion}
+use Rattle.std.proofs.Common.{◌≡◌, ℕ, zero, suc, ◌<◌, true, List, All, [], ◌∷◌, length, get_or, Some, inl, inr, arith}
+use Rattle.std.specs.List.{slice_get, Contains}
 use Rattle.std.proofs.lemmas.Bool.{cases_Bool}
 use Rattle.std.proofs.lemmas.Grind.{common_steps}
+use Rattle.std.proofs.lemmas.List.Elements.{All-cons, All-head, All-tail}
 use Rattle.std.proofs.lemmas.Option.{slice_get-get_or, none-some}
 use Rattle.base.specs.declared.key.Key.{Key}
 use Rattle.table.specs.declared.record.Record.{Record}
@@ -17,9 +18,8 @@ nth_behind k [] i r a h = absurd (none-some r h)
 nth_behind k (s ∷ ss) zero r a h = grind (arith, common_steps)
 nth_behind k (s ∷ ss) (suc i) r a h = grind (arith, common_steps, nth_behind k ss i r)
 
-all_from_nth : (P : Record → Type 0) (rs : List Record) → ((i : ℕ) (r : Record) → slice_get rs i ≡ Some r → P r) → AllByRecursion P rs
-all_from_nth P [] h = tt
-all_from_nth P (r ∷ rs) h = (h 0 r refl, all_from_nth P rs (λ i s e. h (suc i) s e))
+all_from_nth : (P : Record → Type 0) (rs : List Record) → ((i : ℕ) (r : Record) → slice_get rs i ≡ Some r → P r) → All P rs
+all_from_nth P rs h = λ i d lt. h i (get_or rs i d) (slice_get-get_or rs i d lt)
 
 -- a record of a sorted list is found under its key
 pub look_nth : (rs : List Record) (i : ℕ) (r : Record) → sorted rs ≡ true → slice_get rs i ≡ Some r → look r.key rs ≡ Some r
@@ -45,20 +45,24 @@ nth_from_look k (s ∷ ss) r h =
     ]
 
 module _ (P : Record → Type 0) where
-  pub all_look : (k : Key) (rs : List Record) (r : Record) → AllByRecursion P rs → look k rs ≡ Some r → P r
+  pub all_look : (k : Key) (rs : List Record) (r : Record) → All P rs → look k rs ≡ Some r → P r
   unfolding look
   all_look k [] r a h = absurd (none-some r h)
-  all_look k (s ∷ ss) r a h = grind (arith, common_steps, a.0, all_look k ss r a.1)
+  all_look k (s ∷ ss) r a h = grind (arith, common_steps, All-head P s ss a, all_look k ss r (All-tail P s ss a))
 
-  pub all_from_look : (rs : List Record) → sorted rs ≡ true → ((k : Key) (r : Record) → look k rs ≡ Some r → P r) → AllByRecursion P rs
+  pub all_from_look : (rs : List Record) → sorted rs ≡ true → ((k : Key) (r : Record) → look k rs ≡ Some r → P r) → All P rs
   all_from_look rs o h = all_from_nth P rs (λ i r e. h r.key r (look_nth rs i r o e))
 
-  pub all_put : (r : Record) (rs : List Record) → P r → AllByRecursion P rs → AllByRecursion P (put r rs)
+  pub all_put : (r : Record) (rs : List Record) → P r → All P rs → All P (put r rs)
   unfolding put
-  all_put r [] p a = (p, tt)
-  all_put r (s ∷ ss) p a = grind (arith, common_steps, a.0, a.1, all_put r ss p a.1)
+  all_put r [] p a = All-cons P r [] p a
+  all_put r (s ∷ ss) p a =
+      let rest = All-tail P s ss a in
+      grind (arith, common_steps, All-cons P r (s ∷ ss) p a, All-cons P r ss p rest, All-cons P s (put r ss) (All-head P s ss a) (all_put r ss p rest))
 
-  pub all_take_out : (k : Key) (rs : List Record) → AllByRecursion P rs → AllByRecursion P (take_out k rs)
+  pub all_take_out : (k : Key) (rs : List Record) → All P rs → All P (take_out k rs)
   unfolding take_out
   all_take_out k [] a = a
-  all_take_out k (r ∷ rs) a = grind (arith, common_steps, a.0, a.1, all_take_out k rs a.1)
+  all_take_out k (r ∷ rs) a =
+      let rest = All-tail P r rs a in
+      grind (arith, common_steps, rest, All-cons P r (take_out k rs) (All-head P r rs a) (all_take_out k rs rest))

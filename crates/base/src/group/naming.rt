@@ -14,7 +14,9 @@ use crate::refusal::Refusal;
 fn is_name(text: &[u8]) -> bool
     ensures { result ≡ group_text text.now }
 {
-    !text.is_empty() && text.len() <= 16 && !text.contains(&0)
+    // The test has a name, so that what is to be proved of it is not called by its number.
+    let short = text.len() <= 16;
+    !text.is_empty() && short && !text.contains(&0)
 }
 
 fn pad(text: &[u8]) -> [u8; 16]

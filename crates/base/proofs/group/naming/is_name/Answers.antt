@@ -8,5 +8,5 @@ no_zero-any : (xs : List ℕ) → not (list_any (λ y. eqb y 0) xs) ≡ no_zero 
 no_zero-any [] = refl
 no_zero-any (x ∷ xs) = let rest = no_zero-any xs in grind (arith, nat_tests)
 
-pub returns-then-text-le16 : goal.returns-then-text-le16
-returns-then-text-le16 c = let e = no_zero-any c.args.text.now in let v = c.contains.ensures.value in let full = c.if-not-is_empty.branch in let short = c.if-text-le16.true in grind (arith, nat_tests)
+pub returns-then-short : goal.returns-then-short
+returns-then-short c = let e = no_zero-any c.args.text.now in let v = c.contains.ensures.value in let full = c.if-not-is_empty.branch in let few = c.if-short.true in grind (arith, nat_tests)
