@@ -4,6 +4,7 @@ ghost use Rattle.base.specs.Faults.{raised};
 
 use crate::refusal::Refusal;
 use std::convert::Infallible;
+use std::fmt;
 
 // The layers that a fault passes on its way up.
 #[derive(Clone, Copy, PartialEq, Eq, Debug)]
@@ -25,7 +26,7 @@ pub struct Place {
 
 // A fault of one layer, with the fault of the layer below that caused it, if one did. The cause stands first: with it
 // last, a writer whose checks find nothing was measured to take an eighth longer.
-#[derive(Clone, Copy, PartialEq, Debug)]
+#[derive(Clone, Copy, PartialEq)]
 pub struct Fault<Cause> {
     pub cause: Option<Cause>,
     pub at: Place,
@@ -62,5 +63,37 @@ impl<Cause: Copy> From<Fault<Cause>> for Fault<Fault<Cause>> {
             at: below.at,
             cause: Some(below),
         }
+    }
+}
+
+impl<Cause: fmt::Debug> Fault<Cause> {
+    fn show<W: fmt::Write>(&self, name: &str, f: &mut fmt::Formatter<W>) -> fmt::Result {
+        f.debug_struct(name)
+            .field("refusal", &self.refusal)
+            .field("at", &self.at)
+            .field("cause", &self.cause)
+            .finish()
+    }
+}
+
+// By hand, so that each fault is printed under the name of its layer; a medium's has no cause to show.
+impl fmt::Debug for MediumFault {
+    fn fmt<W: fmt::Write>(&self, f: &mut fmt::Formatter<W>) -> fmt::Result {
+        f.debug_struct("MediumFault")
+            .field("refusal", &self.refusal)
+            .field("at", &self.at)
+            .finish()
+    }
+}
+
+impl fmt::Debug for BlockFault {
+    fn fmt<W: fmt::Write>(&self, f: &mut fmt::Formatter<W>) -> fmt::Result {
+        self.show("BlockFault", f)
+    }
+}
+
+impl fmt::Debug for ReplayFault {
+    fn fmt<W: fmt::Write>(&self, f: &mut fmt::Formatter<W>) -> fmt::Result {
+        self.show("ReplayFault", f)
     }
 }

@@ -1,6 +1,6 @@
 -- The laws of the order on keys.
-use Rattle.std.proofs.Common.{◌≡◌, ◌≤◌, true, false, Ordering, arith}
-use Rattle.std.specs.Ordering.{nat_cmp, ordering_then, ordering_index, MatchOrdering}
+use Rattle.std.proofs.Common.{◌≡◌, ◌≤◌, Bool, true, false, Ordering, arith}
+use Rattle.std.specs.Ordering.{nat_cmp, ordering_then, ordering_index, MatchOrdering, is_lt}
 use Rattle.std.proofs.lemmas.Bool.Decides.{nat_tests}
 use Rattle.std.proofs.lemmas.Bool.{cases_Bool}
 use Rattle.std.proofs.lemmas.Grind.{common_steps}
@@ -65,3 +65,8 @@ key_ranks j k r e = grind (arith, nat_tests)
 pub key_cmp_rises : (i j k : Key) → before i j ≡ true → ordering_index (key_cmp i k) ≤ ordering_index (key_cmp j k)
 unfolding before
 key_cmp_rises i j k b = grind (arith, nat_tests)
+
+-- its test for less is `before`
+pub key_lt : (j k : Key) (r : Bool) → r ≡ is_lt (key_cmp j k) → r ≡ before j k
+unfolding before
+key_lt j k r e = grind (arith, nat_tests)

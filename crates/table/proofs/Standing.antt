@@ -1,7 +1,7 @@
 -- The place of a key, as a binary search leaves it.
 use Rattle.std.proofs.Common.{◌≡◌, ℕ, zero, suc, ◌<◌, ◌≤◌, true, false, List, [], ◌∷◌, length, get_or, set, Some, Result, Ok, Err, sym, refl, ap, ◌∙◌, inl, inr, add-one, arith}
 use Rattle.std.specs.List.{slice_get, insert, remove}
-use Rattle.std.specs.List.Sorted.{IsSearchInRange, IsBinarySearchResult, IsNonDecreasingBy, IsPartitionPoint}
+use Rattle.std.specs.List.Sorted.{IsSearchInRange, IsBinarySearchResult, IsNonDecreasingBy, IsPartitionPoint, IsPartitionedBy}
 use Rattle.std.specs.Ordering.{ordering_index}
 use Rattle.std.proofs.lemmas.Bool.{and_parts, cases_lt}
 use Rattle.std.proofs.lemmas.Option.{slice_get-get_or}
@@ -10,7 +10,7 @@ use Rattle.table.specs.declared.record.Record.{Record}
 use Rattle.table.specs.Order.{before, same_key, behind, all_behind, sorted}
 use Rattle.table.specs.Records.{look, has, put, take_out, next_behind}
 use Rattle.table.specs.Places.{Stands, Lacks, Placed}
-use Rattle.table.proofs.Keys.{key_cmp, key_ranks, key_cmp_rises, same_key_refl, same_key_sym, before_irrefl, before_apart, before_asym}
+use Rattle.table.proofs.Keys.{key_cmp, key_ranks, key_cmp_rises, same_key_refl, same_key_sym, before_irrefl, before_apart, before_asym, before_trans, before_other}
 use Rattle.table.proofs.Looks.{sorted_head, sorted_tail, has-behind, look_missing}
 use Rattle.table.proofs.Members.{nth_behind}
 use Rattle.table.proofs.Shapes.{sorted-put, sorted-take_out, here_behind, first_before, take_out_missing}
@@ -113,3 +113,27 @@ module _ (k : Key) where
   searched rs (Err i) o le parted =
       let split = parted (rises rs o) in
       lacks rs i o le (λ j d l u. key_ranks _ _ _ (sym (split.0 j d l u)), λ j d l u. key_ranks _ _ _ (sym (split.1 j d l u)))
+
+  -- no key that comes before k stands behind one that does not
+  pub parts : (rs : List Record) → sorted rs ≡ true → IsPartitionedBy (λ (x : Record). before x.key k) rs
+  parts rs o i j d le lt h =
+      elim (cases_lt i j) [
+        | inl l ↦ before_trans (get_or rs i d).key (get_or rs j d).key k (earlier_before rs i j d o l lt) h
+        | inr l ↦ let same : i ≡ j = omega arith in rw same h
+      ]
+
+  -- where a search for less ends: at the record of the key, or where no such record stands
+  pub cut_stands : (rs : List Record) (i : ℕ) (r : Record) → sorted rs ≡ true → i < length rs → ((d : Record) → r ≡ get_or rs i d) → r.key ≡ k → Stands k rs i
+  cut_stands rs i r o lt at e = stands rs i o lt (λ d. sym (ap (λ (x : Record). x.key) (at d)) ∙ e)
+
+  pub cut_lacks : (rs : List Record) (i : ℕ) → sorted rs ≡ true → i ≤ length rs → IsPartitionPoint (λ (x : Record). before x.key k ≡ true) (λ (x : Record). before x.key k ≡ false) rs i → (i < length rs → (d : Record) → same_key (get_or rs i d).key k ≡ false) → Lacks k rs i
+  cut_lacks rs i o le parted other =
+      lacks rs i o le (
+        parted.0,
+        λ j d l u.
+            let first = before_other (get_or rs i d).key k (parted.1 i d (omega arith) (omega arith)) (other (omega arith) d) in
+            elim (cases_lt i j) [
+              | inl b ↦ before_trans k (get_or rs i d).key (get_or rs j d).key first (earlier_before rs i j d o b u)
+              | inr b ↦ let same : i ≡ j = omega arith in rw same at first
+            ],
+      )
