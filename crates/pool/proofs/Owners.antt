@@ -30,7 +30,7 @@ kept_split ls f g s lt x =
     inr (record { kept = record { file = x.file; number = x.number; low = x.low; from = subst (λ (l : Lane). l.first ≤ x.number) e x.from; to = subst (λ (l : Lane). x.number < l.count) e x.to; at = x.at ∙ ap (λ l. slot l x.number) e }; other = ne }))
     (cases_eq x.file f)
 
-kept_inside : (ls : List Lane) (total s : ℕ) → Inside ls total → Kept ls s → s < total
+pub kept_inside : (ls : List Lane) (total s : ℕ) → Inside ls total → Kept ls s → s < total
 kept_inside ls total s inside x = omega (arith, slot_inside ls x.file no_lane x.number total (inside x.file no_lane x.low), x.at)
 
 -- two kept blocks of a lane have slots of their own
